@@ -1,4 +1,4 @@
-"""The rows of crates/ox_address_rows, and what has to be printed for them.
+"""The rows of crates/ox_block_rows about addresses, and what has to be printed for them.
 
 It reads and writes segwit addresses as the reference decoder of BIP 173 and BIP 350 does, bit by
 bit and with lists, and shares nothing with the library. It asserts first that it agrees with the

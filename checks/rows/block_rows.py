@@ -5,8 +5,8 @@ standard library alone, and knows blocks that others made: the genesis block of 
 two whose bytes, ids and roots were made with Debian's python3-bitcoinlib 0.11.2, which it asserts
 first. Whether a block commits to its witnesses goes by BIP 141 alone. The rows about envelopes and
 ids are those of envelope_rows, those about items and runestones those of stone_rows, those about
-names, numbers and satoshis those of number_rows, and those about blocks that are made those of
-made_blocks.
+names, numbers and satoshis those of number_rows, those about blocks that are made those of
+made_blocks, those about addresses those of address_rows, and those about links those of http_rows.
 """
 
 import hashlib
@@ -14,7 +14,7 @@ import struct
 
 import made_blocks
 from chain import block_of, commitment, committing, transaction
-from rows import envelope_rows, number_rows, stone_rows
+from rows import address_rows, envelope_rows, http_rows, number_rows, stone_rows
 
 COINS = 21_000_000 * 10**8
 MOST = 4_000_000
@@ -383,4 +383,7 @@ def made():
     for row, *lines in (*made_blocks.rows(), *stone_rows.rows(), *number_rows.rows()):
         stdin.append(row)
         stdout += lines
+    for rows_of, lines_of in (address_rows.made(), http_rows.made()):
+        stdin += rows_of
+        stdout += lines_of
     return stdin, stdout

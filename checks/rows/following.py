@@ -8,7 +8,7 @@ before, and what stands before a body or a payload is shown by a call of its own
 
 from rows.desk_rows import ROOM
 from rows.frame_rows import base, first, have, level, step
-from store_files import BODY_AT, BYTES, VERSION, current, number_in, read_body, records
+from store_files import BODY_AT, BYTES, current, number_in, read_body, records
 from store_files import with_payload
 
 BASE, STEP, HAVE, LEVEL = 1, 2, 3, 4
@@ -41,12 +41,6 @@ def frames(world, over):
             held, ended = held + (piece or b""), piece is None
 
 
-def demand_plain(tail):
-    """Files of version 3 aren't led or followed."""
-    if tail.version != VERSION:
-        raise Ended(3)
-
-
 class Leader:
     """What stands in the current file."""
 
@@ -73,7 +67,6 @@ class Leader:
 
 def lead(world, store):
     """Answers the Haves that channel 0 says, by the files that were opened."""
-    demand_plain(store.tail)
     leader = Leader(world.site.files)
     for frame in frames(world, 0):
         if frame[8] != HAVE:
@@ -110,7 +103,6 @@ def take(store, frame):
 
 def follow(world, store):
     """Shows a Have of where a store stands, and one behind each frame that channel 0 says."""
-    demand_plain(store.tail)
     world.show(have(store.tail.generation, store.tail.records))
     for frame in frames(world, 13):
         take(store, frame)

@@ -1,4 +1,4 @@
-"""Rows of ox_http_rows: the frames that a leader and a follower exchange, by docs/FORMATS.md
+"""Rows of ox_block_rows: the frames that a leader and a follower exchange, by docs/FORMATS.md
 ("Frames"). It reads and writes frames on its own.
 """
 

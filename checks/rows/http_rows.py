@@ -1,4 +1,4 @@
-"""The rows of crates/ox_http_rows, and what has to be printed for them.
+"""The rows of crates/ox_block_rows about links, and what has to be printed for them.
 
 It reads streams by RFC 9112 and docs/FORMATS.md ("HTTP"), on its own: by regular expressions over
 the whole head. The rows of frames are those of frame_rows.

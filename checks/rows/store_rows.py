@@ -3,9 +3,10 @@
 Blocks and what they leave of an index are told by docs/RULES.md, and the two files, what a crash
 leaves of them and what they stand for by docs/FORMATS.md, on their own: see plain_index and
 store_files. What these don't say and the rows go by: opening syncs A and B, in this order, asks for
-the length and the front of each, and reads the body and what is behind it; making asks for both
-lengths, writes B, syncs it, writes A's first byte and the others, syncs A, writes its gate and
-syncs it.
+the length and the front of each, and reads the body and what is behind it; of version 3 it reads
+each piece of the body twice, and then of each record the front and the payload, and the last gate;
+making asks for both lengths, writes B, syncs it, writes A's first byte and the others, syncs A,
+writes its gate and syncs it.
 """
 
 import functools
@@ -25,9 +26,11 @@ from tools import bitcoin
 from tools.bitcoin import SUBSIDY, twice
 
 ALL = 1_000_000_000
-# the calls of an opening: two syncs, of both files the length and the front, the body and what is
-# behind it
+# the calls of an opening of version 2: two syncs, of both files the length and the front, the body
+# and what is behind it
 LOOKS = 8
+# how many bytes of a body of version 3 are read at once
+READ_AT_ONCE = 1 << 20
 # the writes and syncs of a making, of a record, and of a turn beside a closed file
 MADE, APPENDED, TURNED = 8, 4, 5
 
@@ -186,7 +189,7 @@ def until_a_call_fails(lines):
         yield "a call failed"
 
 
-def lines_of_opening(site, payloads=()):
+def lines_of_opening(site, payloads=(), most=READ_AT_ONCE):
     """Where the files are no store, the calls behind the fronts aren't counted: then none of
     them may fail, nor of a later one."""
     try:
@@ -200,9 +203,24 @@ def lines_of_opening(site, payloads=()):
         site.calls = ALL
         yield f"not a store: {place}"
         return
-    site.look()
-    site.look()
+    for _ in range(reads_behind(site.files, most)):
+        site.look()
     yield from Store(site, *found).lines(payloads)
+
+
+def reads_behind(files, most=READ_AT_ONCE):
+    """How many calls an opening makes behind those on the fronts of a store's files."""
+    data = files[store_files.current(files)]
+    if data[6] != store_files.SUMMED:
+        return 2
+    begun, end = store_files.body_of_file(data)
+    pieces = -(-(end - begun) // most)
+    return 2 * pieces + 2 * len(store_files.records(data, end)[0]) + 1
+
+
+def looks_at(files):
+    """The calls of an opening of these files, which are a store."""
+    return LOOKS - 2 + reads_behind(files)
 
 
 def opened_lines(site):
@@ -257,6 +275,11 @@ class Stores:
         self.command_row(("open",), payloads)
         self.run(lines_of_opening(self.site, payloads))
 
+    def open_in_pieces(self, most):
+        """Bodies of version 3 are read in pieces of at most so many bytes."""
+        self.row("pieces", most)
+        self.run(lines_of_opening(self.site, (), most))
+
     def migrate(self, refusals=()):
         self.row("migrate")
         self.run(self.lines_of_migrating(self.site, refusals))
@@ -299,7 +322,7 @@ class Stores:
         self.row("locate", *sats)
         self.site.sync("A")
         self.site.sync("B")
-        self.site.calls += LOOKS - 2
+        self.site.calls += looks_at(self.site.files) - 2
         stack, _ = stands(self.site.files)
         self.stdout += [place_line(stack.index, sat) for sat in sats]
 
@@ -609,18 +632,19 @@ def each_call(rows, command, calls, gate=None):
     again. The command counts from the call that writes its gate, and that is synced by the next
     one: the last two, where it isn't said."""
     rows.settle()
-    gate = LOOKS + (calls - 2 if gate is None else gate)
+    looks = looks_at(rows.site.files)
+    gate = looks + (calls - 2 if gate is None else gate)
     before = len(stands(rows.site.files)[0].hashes())
-    for call in range(LOOKS + calls + 1):
+    for call in range(looks + calls + 1):
         rows.restart(0, 0, ALL)
         rows.fail(call)
         rows.open([command])
-        assert (rows.stdout[-1] == "a call failed") == (call < LOOKS + calls)
+        assert (rows.stdout[-1] == "a call failed") == (call < looks + calls)
         for fill in (0x00, 0x07):
             rows.reopen(len(rows.site.steps), fill, ALL)
             blocks = int(rows.stdout[-1].split()[0])
             assert abs(blocks - before) == (call >= gate + (0 if fill else 2))
-        if call < LOOKS + calls:
+        if call < looks + calls:
             rows.open()
             blocks = int(rows.stdout[-1].split()[0])
             # what a write that failed was to put isn't read, and what wasn't synced is

@@ -14,7 +14,7 @@ from plain_index import NO_BLOCK
 from rows.frame_rows import have, level
 from rows.serve_rows import post
 from rows.store_rows import ALL, APPENDED, FILLS, LOOKS, TURNED, Stores, block_on, each_call
-from rows.store_rows import each_moment, marks, not_at
+from rows.store_rows import each_moment, looks_at, marks, not_at, reads_behind
 from rows.worlds import CUTS_NOTHING, PORTIONS, Runs
 from store_files import BODY_AT, CLOSED, GREATEST, OPEN, PIECE, SUMMED, VERSION, bytes_in, number
 from store_files import record_at, records, stands, sum_of, summed_store_of
@@ -64,6 +64,45 @@ def opens(rows):
     assert rows.stdout[-1] == "not empty"
     rows.migrate()
     assert rows.stdout[-1] == "not a store: A at 6"
+
+
+# ---- bodies in pieces
+
+# how many bytes of a body are read at once
+SIZES = 1, 7, 64
+
+
+def in_pieces(rows):
+    rows.heading("stores of both versions, opened in pieces of 1, 7 and 64 bytes")
+    commands = made_blocks.drill_commands(12)
+    for count in (0, 1, len(commands)):
+        stack = summed_store_of(commands[:count]).stack
+        for version in (VERSION, SUMMED):
+            for payloads in ([], payloads_of(marks(1, 3, stack.tip())[0], stack)):
+                rows.put(file_of(version, 1, payloads, stack.body()))
+                rows.open()
+                for most in SIZES:
+                    rows.open_in_pieces(most)
+                    assert rows.stdout[-1] == rows.stdout[-2]
+    rows.heading("a store of version 3 with two records, cut at each byte")
+    block, _ = block_on(NO_BLOCK, 1, target=b"")
+    (a, _) = bytes_in(summed_store_of([payload_of(block), DISCONNECT]))
+    for size in range(1, len(a)):
+        rows.put(a[:size])
+        rows.open()
+        rows.open_in_pieces(7)
+        assert rows.stdout[-1].startswith("not a store: A at")
+        assert rows.stdout[-1] == rows.stdout[-2]
+    rows.heading("each call of an opening in pieces of 64 bytes fails")
+    rows.put(a)
+    rows.open()
+    rows.settle()
+    calls = LOOKS - 2 + reads_behind(rows.site.files, 64)
+    for call in range(calls + 1):
+        rows.restart(0, 0, ALL)
+        rows.fail(call)
+        rows.open_in_pieces(64)
+        assert (rows.stdout[-1] == "a call failed") == (call < calls)
 
 
 # ---- turns
@@ -178,7 +217,7 @@ def long_pieces(rows):
     rows.open(commands[:63])
     rows.settle()
     # behind the third piece, and whole
-    for call in (LOOKS + APPENDED + 4, ALL):
+    for call in (looks_at(rows.site.files) + APPENDED + 4, ALL):
         rows.restart(0, 0, ALL)
         rows.fail(call)
         rows.open(commands[63:])
@@ -257,6 +296,14 @@ def turns(rows):
 # ---- what is no store
 
 
+def not_in_pieces(rows, place):
+    """The files are no store, however long the pieces of a body are."""
+    not_at(rows, place)
+    for most in SIZES:
+        rows.open_in_pieces(most)
+        assert rows.stdout[-1] == f"not a store: {place}", rows.stdout[-1]
+
+
 def heads(rows):
     rows.heading("heads of version 3 that are cut or none, all with the sums that they should have")
     a = summed([CONNECTED, DISCONNECT])
@@ -281,16 +328,16 @@ def heads(rows):
     rows.heading("bodies of version 3 that are cut, none, or not as their sum says")
     for size in (90, GATE - 1):
         rows.put(a[:size])
-        not_at(rows, "A at 90")
+        not_in_pieces(rows, "A at 90")
     for size in (0, len(BODY) - 1, len(BODY) + 1, 1 << 63, GREATEST - 90, GREATEST):
         rows.become(with_head(a, 18, number(size, 8), sum_of(a[90 : 90 + size])))
-        not_at(rows, "A at 90")
+        not_in_pieces(rows, "A at 90")
     for body_sum in (bytes(32), sum_of(), sum_of(BODY[1:])):
         rows.become(with_head(a, 18, a[18:26], body_sum))
-        not_at(rows, "A at 90")
+        not_in_pieces(rows, "A at 90")
     for body in (BODY + b"\0", b"\1" + BODY[1:]):
         rows.become(summed([], body))
-        not_at(rows, "A at 90")
+        not_in_pieces(rows, "A at 90")
 
 
 def places(rows):
@@ -307,7 +354,7 @@ def places(rows):
         (third, third),
     ):
         rows.put(a[:size])
-        not_at(rows, f"A at {place}")
+        not_in_pieces(rows, f"A at {place}")
     spelled = lambda payload, generation=1, place=third: (
         OPEN + record_at(SUMMED, generation, place, payload)
     )
@@ -328,20 +375,20 @@ def places(rows):
         spelled(CONNECTED)[:9] + bytes(32) + spelled(CONNECTED)[41:],
     ):
         rows.become(a[:-1] + record + CLOSED)
-        not_at(rows, f"A at {third}")
+        not_in_pieces(rows, f"A at {third}")
     rows.heading("the first record that is none counts, be it for its sum or for its rows")
     wrong = OPEN + spelled(CONNECTED)[1:9] + bytes(32) + CONNECTED
     after = third + len(wrong)
     rows.become(a[:-1] + wrong + spelled(b"\2", place=after))
-    not_at(rows, f"A at {third}")
+    not_in_pieces(rows, f"A at {third}")
     rows.become(a[:-1] + spelled(b"\2") + wrong)
-    not_at(rows, f"A at {third}")
+    not_in_pieces(rows, f"A at {third}")
     rows.become(a[:-1] + spelled(CONNECTED)[:-1] + wrong)
-    not_at(rows, f"A at {after}")
+    not_in_pieces(rows, f"A at {after}")
     rows.put(a[:-1] + wrong)
-    not_at(rows, f"A at {third}")
+    not_in_pieces(rows, f"A at {third}")
     rows.put(a[:-1] + spelled(CONNECTED)[:-1])
-    not_at(rows, f"A at {after}")
+    not_in_pieces(rows, f"A at {after}")
     rows.heading("what an older file left behind the last gate isn't read, nor where that is open")
     left = summed([CONNECTED, DISCONNECT, CONNECTED])[GATE:]
     newer = summed(generation=2)
@@ -349,7 +396,7 @@ def places(rows):
     rows.open()
     assert rows.stdout[-1].startswith("0 blocks")
     rows.overwrite("A", GATE, OPEN)
-    not_at(rows, f"A at {GATE}")
+    not_in_pieces(rows, f"A at {GATE}")
     rows.overwrite("A", GATE, CLOSED)
     rows.open([payload_of(BLOCK), DISCONNECT])
     rows.file("A", GATE)
@@ -360,7 +407,7 @@ def wrong_rows(rows):
     for _, file in [*store_faults.wrong_bodies()][::6]:
         body = file[slice(*store_files.body_of_file(file))]
         rows.become(summed([], body))
-        not_at(rows, "A at 90")
+        not_in_pieces(rows, "A at 90")
 
 
 def changes(rows):
@@ -376,6 +423,8 @@ def changes(rows):
             rows.overwrite("A", at - len(before), before + bytes([byte ^ way]))
             rows.open()
             assert at in gates or rows.stdout[-1].startswith("not a store: A at")
+            rows.open_in_pieces(7)
+            assert rows.stdout[-1] == rows.stdout[-2]
         rows.overwrite("A", len(a) - 1, CLOSED)
         rows.open()
 
@@ -428,7 +477,9 @@ def applies(rows):
     rows.ends(("apply",), 0, told[64])
     rows.heading("each call of an append fails, and a stop afterwards")
     # behind those of the opening, and the hearing
-    for call in range(LOOKS + 1, LOOKS + 1 + APPENDED):
+    rows.store()
+    heard = looks_at(rows.world.site.files) + 1
+    for call in range(heard, heard + APPENDED):
         rows.store(line(blocks[0]))
         rows.fail(call)
         rows.ends(("apply",), 4, b"")
@@ -443,12 +494,13 @@ def applies(rows):
     rows.heading("a call of a turn that fails leaves the line unanswered, and its command there")
     full = summed(payloads_of(map(payload_of, blocks[:63])))
     rows.put(full)
-    for call in range(LOOKS + 1 + APPENDED, LOOKS + 1 + APPENDED + TURNED_ON + 1):
+    appended = looks_at(rows.world.site.files) + 1 + APPENDED
+    for call in range(appended, appended + TURNED_ON + 1):
         rows.again(line(blocks[63]))
         rows.fail(call)
         ended = rows.run("apply")
         # behind the turn the answer is shown
-        assert ended == ((4, b"") if call < LOOKS + 1 + APPENDED + TURNED_ON else (6, b""))
+        assert ended == ((4, b"") if call < appended + TURNED_ON else (6, b""))
         rows.blocks(64)
     rows.heading("a write of a turn that fails halfway")
     rows.put(full)
@@ -478,11 +530,11 @@ def others(rows):
         rows.ends(words, status, told)
         rows.files(EMPTY)
     for words in ("lead", "follow"):
-        # the first call and the last one
-        for call in (0, LOOKS - 1):
+        # the first call, the last one and the one that would read the body
+        for call, status in ((0, 4), (LOOKS - 3, 4), (LOOKS - 2, 3)):
             rows.store()
             rows.fail(call)
-            rows.ends((words,), 4, b"")
+            rows.ends((words,), status, b"")
 
 
 # ---- stores that become ones of version 3
@@ -604,7 +656,7 @@ def grow_stops(rows):
 def stores():
     """The rows of stores, and what has to be printed for them."""
     rows = Stores()
-    for part in (opens, turns_on, halves, others_turn, long_pieces, pairs, turns):
+    for part in (opens, in_pieces, turns_on, halves, others_turn, long_pieces, pairs, turns):
         part(rows)
     for part in (heads, places, wrong_rows, changes):
         part(rows)

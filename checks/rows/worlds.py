@@ -19,8 +19,8 @@ from rows import following, store_rows
 from rows.block_rows import Fault, Reader
 from rows.desk_rows import ROOM, compact, printed
 from rows.serving import Desk, DoorFailed, Server
-from rows.store_rows import ALL, CallFailed, Site
-from store_files import BYTES, CLOSED, NoStore, stands
+from rows.store_rows import ALL, CallFailed, Site, reads_behind
+from store_files import BYTES, CLOSED, PRESENT, VERSION, NoStore, stands
 
 LONGEST = 8_000_008
 KEPT_BY_FOLD = 1000
@@ -227,9 +227,11 @@ class World:
         except following.Ended as ended:
             return ended.args[0]
         except NoStore as place:
-            # the calls behind the fronts aren't counted: then none of them may fail
-            assert all(call < self.site.calls for call in self.site.failing)
-            self.site.calls = ALL
+            # the calls behind the fronts aren't counted: then none of them may fail; at a version
+            # that isn't read there are none
+            if not str(place).endswith(" at 6"):
+                assert all(call < self.site.calls for call in self.site.failing)
+                self.site.calls = ALL
             if words not in (("lead",), ("follow",)):
                 self.say(f"not a store {str(place).lower().replace(' at', '')}\n".encode())
             return 3
@@ -254,9 +256,9 @@ class World:
         elif words == ("grow",):
             self.grow()
         elif words == ("lead",):
-            following.lead(self, self.opened())
+            following.lead(self, self.opened((VERSION,)))
         elif words == ("follow",):
-            following.follow(self, self.opened())
+            following.follow(self, self.opened((VERSION,)))
         else:
             self.say(b"usage\n")
             return 1
@@ -268,11 +270,11 @@ class World:
         for _ in range(4):
             self.site.look()
 
-    def opened(self, grows=False):
+    def opened(self, reads=PRESENT, grows=False):
         self.look_at_fronts()
-        found = stands(self.site.files, grows)
-        self.site.look()
-        self.site.look()
+        found = stands(self.site.files, reads, grows)
+        for _ in range(reads_behind(self.site.files)):
+            self.site.look()
         return store_files.Store(self.disk, *found)
 
     def answer_all(self, stack, store=None):
@@ -337,7 +339,7 @@ class World:
         return 0
 
     def grow(self):
-        self.opened(grows=True).grow()
+        self.opened((VERSION,), grows=True).grow()
         self.show(b"ok grown\n")
 
     def visit(self, door, rooms):

@@ -1,4 +1,5 @@
-//! What blocks, scripts, texts and numbers read as, a row of standard input each.
+//! What blocks, scripts, texts, numbers, addresses and streams read as, a row of standard input
+//! each.
 //!
 //! Of blocks:
 //!
@@ -45,9 +46,41 @@
 //!
 //! Of paths `route BYTES`: the route that a path takes.
 //!
+//! Of addresses, behind a human-readable part:
+//!
+//! - `write HRP HEX`: the address of a script; `read HRP HEX`: the script of a text;
+//! - `changes HRP HEX`: how many texts with one byte changed are no address, and each other one;
+//! - `swaps HRP HEX`: the same of two neighbours exchanged;
+//! - `repeat WORK HRP HEX TIMES`: a script is written so many times, each time with another last
+//!   byte, and where the work is `both` its address is read again: a sum of what came out, to be
+//!   timed (bench/address.py).
+//!
+//! Of links:
+//!
+//! - `talk PART..`: the messages of a stream, one after another, and how many bytes are left;
+//! - `grow PART..`: the same stream, byte by byte more of it: at which length something is said for
+//!   the first time, and what; whether this stays so to the stream's end;
+//! - `reply STATUS HEX ENCODING CLOSE HEX`: a written reply, its kind and its body; each writer has
+//!   to write the same;
+//! - `fault STATUS`: the written reply to a fault; `unavailable`: the reply 503;
+//! - `link STEP..`: what a session of one link does, step by step. Behind each it is polled until
+//!   it waits or is over, each request is replied with its path as the body, and what is due is
+//!   printed, and taken in two halves. Steps: `say:N:PART,PART..` (the link says these parts, N
+//!   bytes at a time, or all at once for 0), `end` (it says nothing more), `close` (from here on
+//!   replies say close), `busy` (requests are answered 503), `none` (503 is due, whatever is
+//!   asked);
+//! - `frames PART..`: the frames that stand one after another, what each takes, its front written
+//!   anew, and what stands behind them; `pieces N PART..`: the same bytes, N more at a time: at
+//!   which length something stands at the front for the first time, and what; whether this stays
+//!   so;
+//! - `often TIMES PART..`: what a stream begins with, read so often; `hold LINKS N PART..`: so many
+//!   sessions that hear a stream, N bytes at a time, and are kept (both are timed by
+//!   bench/streams.py).
+//!
 //! BYTES are four words, `N HEAD PART TAIL`: a head, N times a part, and a tail. Bytes are hex
-//! digits, or `-` for none. What is written into room is printed with whether the bytes behind it
-//! stayed.
+//! digits, or `-` for none. A PART is hex digits, or `N*` and hex digits for so many times the
+//! same; `-` is none. What is written into room is printed with whether the bytes behind it stayed.
+//! A row that begins with `#` is printed as it stands.
 //!
 //! The rows and what has to be printed are made by checks/make_rows.py, which goes by the public
 //! rules and shares nothing with the libraries.
@@ -56,24 +89,35 @@
 //! before it is printed, to be timed: see bench/read_block.py and bench/find_envelopes.py.
 #![tactic(auto)]
 
+mod addresses;
 mod blocks;
 mod fields;
+mod frames;
+mod links;
 mod made;
 mod names;
+mod often;
 mod print;
 mod ranges;
+mod replies;
 mod routes;
 mod sats;
 mod scripts;
 mod spell;
 mod stones;
+mod streams;
 
+use crate::addresses::{print_address, print_repeated};
 use crate::blocks::{print_committed, print_fronts, print_order, print_read};
 use crate::fields::{numbers_of, print_fields, print_put, print_room, short};
+use crate::frames::{print_frames, print_pieces};
+use crate::links::drive;
 use crate::made::print_made;
 use crate::names::print_numbers;
+use crate::often::{print_held, read_often};
 use crate::print::{NO_ROW, Page, put_line};
 use crate::ranges::print_steps;
+use crate::replies::{print_fault, print_row, print_unavailable};
 use crate::routes::print_route;
 use crate::sats::{print_minted, print_profile};
 use crate::scripts::{
@@ -81,6 +125,7 @@ use crate::scripts::{
 };
 use crate::spell::{bytes_from, bytes_of};
 use crate::stones::print_stone;
+use crate::streams::{print_growth, print_talk, stream_of};
 use ox_envelope::{read_id, read_id_text};
 use ox_name::read_name;
 use ox_varint::read;
@@ -156,6 +201,42 @@ fn run_put(page: &mut Page, alloc: Global, rest: &str) {
     }
 }
 
+/// Prints what a stream says. A number says how often it is read, or how much of it comes at a
+/// time.
+fn run_stream(page: &mut Page, alloc: Global, word: &str, stream: &[u8], count: usize) {
+    match word {
+        "talk" => print_talk(page, alloc, stream),
+        "grow" => print_growth(page, alloc, stream),
+        "frames" => print_frames(page, stream),
+        "pieces" => print_pieces(page, stream, count),
+        _ => read_often(page, alloc, stream, count),
+    }
+}
+
+/// The same of the stream that parts spell.
+fn run_parts_of(page: &mut Page, alloc: Global, word: &str, parts: &str, count: usize) {
+    match stream_of(alloc, parts, ' ') {
+        Some(stream) => run_stream(page, alloc, word, &stream, count),
+        None => page.say(NO_ROW),
+    }
+}
+
+/// Prints what a link and its streams say, and replies.
+fn run_link(page: &mut Page, alloc: Global, word: &str, rest: &str) {
+    match word {
+        "pieces" | "often" => {
+            let (count, parts) = rest.split_once(' ').unwrap_or((rest, "-"));
+            run_parts_of(page, alloc, word, parts, count.parse().unwrap_or(0))
+        }
+        "link" => drive(page, alloc, rest),
+        "hold" => print_held(page, alloc, rest),
+        "reply" => print_row(page, alloc, rest),
+        "fault" => print_fault(page, alloc, rest),
+        "unavailable" => print_unavailable(page),
+        _ => run_parts_of(page, alloc, word, rest, 0),
+    }
+}
+
 /// Prints what texts and numbers say.
 fn run_text(page: &mut Page, alloc: Global, word: &str, rest: &str) {
     match word {
@@ -181,7 +262,28 @@ fn run(page: &mut Page, alloc: Global, row: &str, times: u32) {
         }
         "stone" | "tapscript" | "room" => run_count(page, alloc, word, rest),
         "put" => run_put(page, alloc, rest),
+        "write" | "read" | "changes" | "swaps" => print_address(page, alloc, word, rest),
+        "repeat" => print_repeated(page, alloc, rest),
+        "talk"
+        | "grow"
+        | "frames"
+        | "pieces"
+        | "often"
+        | "link"
+        | "hold"
+        | "reply"
+        | "fault"
+        | "unavailable" => run_link(page, alloc, word, rest),
         _ => run_text(page, alloc, word, rest),
+    }
+}
+
+/// Prints what a row says; one that begins with `#` as it stands, and nothing of an empty one.
+fn run_row(page: &mut Page, alloc: Global, row: &str, times: u32) {
+    if row.starts_with('#') {
+        page.say(row);
+    } else if !row.is_empty() {
+        run(page, alloc, row, times);
     }
 }
 
@@ -189,11 +291,9 @@ fn run(page: &mut Page, alloc: Global, row: &str, times: u32) {
 fn run_all(rt: &impl Print, alloc: Global, text: &str, times: u32) -> io::Result<()> {
     let mut page = Page::new(alloc);
     for row in text.split('\n') {
-        if !row.is_empty() {
-            page.clear();
-            run(&mut page, alloc, row, times);
-            print!(rt; "{}", page.as_str())?;
-        }
+        page.clear();
+        run_row(&mut page, alloc, row, times);
+        print!(rt; "{}", page.as_str())?;
     }
     Ok(())
 }

@@ -113,7 +113,7 @@ pub fn print_line(page: &mut Page, bytes: &[u8]) {
 }
 
 /// Whether nothing was written into these.
-fn is_untouched(behind: &[u8]) -> bool {
+pub fn is_untouched(behind: &[u8]) -> bool {
     for byte in behind {
         if *byte != FILLED {
             return false;

@@ -31,7 +31,7 @@ pub enum Method {
 }
 
 /// A request, as it is cut out of a link's bytes (RFC 9112).
-#[derive(Debug, PartialEq, Eq, Drop)]
+#[derive(PartialEq, Eq, Drop)]
 pub struct Request {
     pub method: Method,
     /// The target of the request line, byte for byte.
@@ -42,7 +42,7 @@ pub struct Request {
 }
 
 /// A reply, before it is written as a link's bytes.
-#[derive(Debug, PartialEq, Eq, Drop)]
+#[derive(PartialEq, Eq, Drop)]
 pub struct Reply {
     /// The status code (RFC 9110, section 15).
     pub status: u16,

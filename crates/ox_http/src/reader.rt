@@ -29,7 +29,7 @@ pub const HEAD_LIMIT: usize = 8192;
 pub const BODY_LIMIT: usize = BLOCK_LIMIT;
 
 /// A head without a fault, read. It borrows the path.
-#[derive(Clone, Copy, Debug)]
+#[derive(Clone, Copy)]
 pub struct HeadRead<'h> {
     /// How many bytes the head has.
     pub len: usize,
@@ -42,7 +42,7 @@ pub struct HeadRead<'h> {
 }
 
 /// What the front of a stream is, a body left aside.
-#[derive(Clone, Copy, Debug)]
+#[derive(Clone, Copy)]
 pub enum HeadFound<'h> {
     /// A head without a fault.
     Opens(HeadRead<'h>),
@@ -53,7 +53,7 @@ pub enum HeadFound<'h> {
 }
 
 /// What a stream begins with.
-#[derive(Debug, Drop)]
+#[derive(Drop)]
 pub enum Parsed {
     /// A whole request, which has so many bytes of the stream.
     Whole { request: Request, used: usize },

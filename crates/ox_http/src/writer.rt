@@ -21,7 +21,7 @@ pub const UNAVAILABLE: &[u8] =
     b"HTTP/1.1 503 Service Unavailable\r\nContent-Length: 0\r\nConnection: close\r\n\r\n";
 
 /// A reply's parts, borrowed: all but whether the link ends with it.
-#[derive(Clone, Copy, Debug)]
+#[derive(Clone, Copy)]
 pub struct ReplyParts<'r> {
     /// The status code.
     pub status: u16,

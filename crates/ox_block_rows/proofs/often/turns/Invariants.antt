@@ -1,5 +1,5 @@
 use Rattle.std.proofs.Common.{◌≡◌, [], false}
-use Rattle.ox_http_rows.proofs.often.turns.Given as goal
+use Rattle.ox_block_rows.proofs.often.turns.Given as goal
 
 -- nothing is due, and no request unanswered
 abbrev pub invariant-loop : goal.invariant-loop
