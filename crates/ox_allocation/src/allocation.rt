@@ -14,7 +14,7 @@ use ox_runestone::{Edict, RuneId};
 use std::alloc::Global;
 
 /// What a pool's runes have come to.
-#[derive(Debug, Drop)]
+#[derive(Drop)]
 pub struct Allocated {
     /// The runes of each output, in the outputs' order.
     pub given: List<Balances>,

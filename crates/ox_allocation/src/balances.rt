@@ -19,7 +19,7 @@ use std::marker::Model;
 
 /// The runes that an output holds: ids and amounts, ids rising, no amount 0. One rune takes no
 /// memory of its own. Contracts see the list.
-#[derive(Debug, Drop)]
+#[derive(Drop)]
 pub struct Balances {
     items: SmallVec<(RuneId, u128), 1>,
 }
@@ -79,14 +79,14 @@ impl Balances {
 /// The runes that a transaction has to give: those of its inputs, its mint and its etching. One
 /// rune takes no memory of its own. Contracts see the list of ids and amounts, ids rising, no
 /// amount 0.
-#[derive(Debug, Drop)]
+#[derive(Drop)]
 pub struct Pool {
     alloc: Global,
     kept: Kept,
 }
 
 /// How a pool is kept.
-#[derive(Debug, Drop)]
+#[derive(Drop)]
 enum Kept {
     /// As an output holds runes, while they come by rising ids.
     Rising(SmallVec<(RuneId, u128), 1>),

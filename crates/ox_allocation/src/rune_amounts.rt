@@ -16,7 +16,6 @@ use std::marker::Model;
 
 /// Amounts of runes by their ids. One rune takes no memory. Contracts see the list of ids and
 /// amounts, by rising ids.
-#[derive(Debug)]
 pub(crate) struct Amounts {
     alloc: Global,
     form: Form,
@@ -33,7 +32,7 @@ impl Drop for Amounts {
 }
 
 /// What amounts are kept as.
-#[derive(Debug, Drop)]
+#[derive(Drop)]
 enum Form {
     /// No rune.
     Empty,

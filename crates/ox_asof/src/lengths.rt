@@ -7,7 +7,7 @@ use crate::undone::Undone;
 use ox_model::{Change, View};
 
 /// How much there is of each list of an index.
-#[derive(Clone, Copy, Debug, PartialEq, Eq)]
+#[derive(Clone, Copy, PartialEq, Eq)]
 pub(crate) struct Lengths {
     pub(crate) blocks: u32,
     pub(crate) lost: u64,

@@ -15,8 +15,7 @@ use Rattle.ox_http.specs.declared.writer.ReplyParts.{ReplyParts}
 use Rattle.ox_http.specs.Written.{reply_of, written}
 use Rattle.ox_cache.specs.declared.Key.{Key}
 use Rattle.ox_cache.specs.Kept.{Answers, Entry, Hits, IsNewest, Kept, Peeked, after_hit, after_miss}
-use Rattle.ox_cache.specs.Kept.{IsReplyOf, closing, counted, entry_in, entry_of, kept_in}
-use Rattle.ox_cache.specs.Kept.{others}
+use Rattle.ox_cache.specs.Kept.{closing, counted, entry_in, entry_of, kept_in, others}
 use Rattle.ox_cache.specs.contracts.KeyPartialEq.TheImpl as same
 
 -- the equality that is derived
@@ -116,41 +115,6 @@ module _ (key : Key) where
       (kept_in (lru_cache (promoted (equal key) old.entries) old.cap) m))
       (sym n)
       (promoted-hits old hits (lookup_entry (equal key) old.entries))))
-
-  put-hit : (old : LruCache Key Reply) (reply : Reply) (o : Option (Key × Reply))
-      → IsReplyOf reply (option_map entry_in o)
-      → option_map_or (λ e. (e.0, reply) ∷ remove_entry (equal key) old.entries) o
-      ((key, reply) ∷ take (old.cap - 1) old.entries)
-      ≡ option_map_or (λ e. e ∷ remove_entry (equal key) old.entries) o old.entries
-  put-hit old reply None never = absurd never
-  put-hit old reply (Some e) is = ap (λ r. (e.0, r) ∷ remove_entry (equal key) old.entries) is
-
-  -- an entry that is put again with its reply comes to the front
-  pub Hits-put : (old new : LruCache Key Reply) (reply : Reply) (hits count : ℕ)
-      → IsReplyOf reply (seen old.entries)
-      → new ≡ lru_cache (put_entries equal old key reply) old.cap
-      → count ≡ min (hits + 1) (2 ^ 64 - 1)
-      → Hits key.commands key.path.items (seen old.entries) (kept_in old hits) (kept_in new count)
-  Hits-put old new reply hits count is e n =
-      Hits-promoted old new hits count
-      (e ∙ ap (λ es. lru_cache es old.cap)
-      (put-hit old reply (lookup_entry (equal key) old.entries)
-      (subst (IsReplyOf reply) (seen-is old.entries) is)))
-      n
-
-  reply-of : (o : Option Entry) (reply kept : Reply)
-      → option_map (λ (e : Entry). e.reply) o ≡ Some kept → reply ≡ kept → IsReplyOf reply o
-  reply-of None reply kept is same = let e : None ≡ Some kept = is in cc e
-  reply-of (Some entry) reply kept is same =
-      let some : Some entry.reply ≡ Some kept = is in
-      let own : entry.reply ≡ kept = cc some in
-      same ∙ sym own
-
-  -- what is looked up is the reply of the entry
-  pub IsReplyOf-lookup : (entries : List (Key × Reply)) (reply kept : Reply)
-      → lookup (equal key) entries ≡ Some kept → reply ≡ kept → IsReplyOf reply (seen entries)
-  IsReplyOf-lookup entries reply kept looked same =
-      reply-of (seen entries) reply kept (sym (lookup-is entries) ∙ looked) same
 
   put-at : (old : LruCache Key Reply) (reply : Reply) (o : Option (Key × Reply))
       → option_map entry_in o ≡ None

@@ -90,11 +90,6 @@ abbrev pub Peeked : Bool → Option (List ℕ) → Option Entry → Type 0
 Peeked close found None = found ≡ None
 Peeked close found (Some entry) = found ≡ Some (written (closing close entry.reply))
 
--- the reply is that of an entry
-abbrev pub IsReplyOf : Reply → Option Entry → Type 0
-IsReplyOf reply None = ⊥
-IsReplyOf reply (Some entry) = reply ≡ entry.reply
-
 -- these are the bytes of the most recent entry, which is that of a number and a path
 pub record IsNewest (commands : ℕ) (path : List ℕ) (close : Bool) (bytes : List ℕ)
     (entries : List Entry) : Type 0 where

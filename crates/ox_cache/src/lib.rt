@@ -4,7 +4,7 @@
 ghost use Rattle.std.specs.Prelude.{◌≡◌, Ok, None, IfOk, IfSome, OnOk, OnErr};
 ghost use Rattle.std.specs.NonZero.{non_zero_usize_get};
 ghost use Rattle.ox_http.specs.Written.{written};
-ghost use Rattle.ox_cache.specs.Kept.{Answers, Hits, IsNewest, IsReplyOf, Peeked, after_miss};
+ghost use Rattle.ox_cache.specs.Kept.{Answers, Hits, IsNewest, Peeked, after_miss};
 ghost use Rattle.ox_cache.specs.Kept.{closing, counted, entry_in, entry_of, none_kept};
 
 use lru::LruCache;
@@ -56,30 +56,15 @@ impl Model for KeptReply {
         IfSome kept.bytes (λ bytes. bytes ≡ written (closing false kept.reply)) };
 }
 
-/// A copy of an encoding. `Memory` where there is none for it.
-fn copy_encoding(alloc: Global, encoding: &Option<Bytes>) -> Result<Option<Bytes>, Memory>
-    ensures { IfOk result (λ copied. copied ≡ encoding.now) }
-{
-    match encoding {
-        Some(encoding) => Ok(Some(Bytes::copy(alloc, encoding.as_slice())?)),
-        None => Ok(None),
-    }
-}
-
 impl KeptReply {
-    /// A copy of the reply, with its bytes. `Memory` where there is none for them.
-    fn written(&self, alloc: Global) -> Result<KeptReply, Memory>
-        ensures { IfOk result (λ kept. kept ≡ self.now) }
+    /// The reply was a hit: it has its bytes from now on. `Memory` where there is none for them.
+    fn keep_bytes(&mut self, alloc: Global) -> Result<(), Memory>
+        ensures { self.new ≡ self.old }
     {
-        let bytes = Some(write_parts(alloc, self.reply.parts(), false)?);
-        let reply = Reply {
-            status: self.reply.status,
-            kind: Bytes::copy(alloc, self.reply.kind.as_slice())?,
-            encoding: copy_encoding(alloc, &self.reply.encoding)?,
-            body: Bytes::copy(alloc, self.reply.body.as_slice())?,
-            close: self.reply.close,
-        };
-        Ok(KeptReply { reply, bytes })
+        if self.bytes.is_none() {
+            self.bytes = Some(write_parts(alloc, self.reply.parts(), false)?);
+        }
+        Ok(())
     }
 
     /// The reply's bytes, with which the link ends where `close` is so. `Memory` where there is
@@ -92,6 +77,21 @@ impl KeptReply {
             _ => write_parts(alloc, self.reply.parts(), close),
         }
     }
+}
+
+/// The reply that is kept for a key has its bytes from now on. `Memory` where there is none for
+/// them.
+fn keep_bytes_of(
+    replies: &mut LruCache<Key, KeptReply>,
+    alloc: Global,
+    key: &Key,
+) -> Result<(), Memory>
+    ensures { replies.new ≡ replies.old }
+{
+    let Some(kept) = replies.peek_mut(key) else {
+        return Ok(());
+    };
+    kept.keep_bytes(alloc)
 }
 
 /// Replies by the number of commands and the path that they answer. Contracts see a cache as
@@ -157,42 +157,15 @@ impl Cache {
         self.hits = self.hits.saturating_add(1);
     }
 
-    /// The reply that is kept for a key with its bytes, where it was no hit yet. `Memory` where
-    /// there is none for it.
-    fn first_hit(&self, key: &Key) -> Result<Option<KeptReply>, Memory>
-        ensures { IfOk result (λ found. IfSome found (λ kept. IsReplyOf kept
-            (entry_of key.now.commands key.now.path.items self.now.entries))) }
-    {
-        match self.replies.peek(key) {
-            Some(kept) if kept.bytes.is_none() => Ok(Some(kept.written(self.alloc)?)),
-            _ => Ok(None),
-        }
-    }
-
-    /// The reply that is kept for a key was the answer for the first time, and is kept with its
-    /// bytes from then on. `Memory` where there is none for it: nothing has changed then.
-    fn keep_hit(&mut self, key: Key, kept: KeptReply) -> Result<(), Memory>
-        requires { IsReplyOf kept (entry_of key.commands key.path.items self.old.entries) }
-        ensures ok { OnOk result (Hits key.commands key.path.items
-            (entry_of key.commands key.path.items self.old.entries) self.old self.new) }
-        ensures err { OnErr result (self.new ≡ self.old) }
-    {
-        self.replies.put(key, kept)?;
-        self.count();
-        Ok(())
-    }
-
     /// The reply that is kept for the key was the answer. `Memory` where there is none to keep its
     /// bytes, at the first time: nothing has changed then.
-    fn hit(&mut self, key: Key) -> Result<(), Memory>
-        ensures ok { OnOk result (Hits key.commands key.path.items
-            (entry_of key.commands key.path.items self.old.entries) self.old self.new) }
+    fn hit(&mut self, key: &Key) -> Result<(), Memory>
+        ensures ok { OnOk result (Hits key.now.commands key.now.path.items
+            (entry_of key.now.commands key.now.path.items self.old.entries) self.old self.new) }
         ensures err { OnErr result (self.new ≡ self.old) }
     {
-        if let Some(kept) = self.first_hit(&key)? {
-            return self.keep_hit(key, kept);
-        }
-        self.replies.promote(&key);
+        keep_bytes_of(&mut self.replies, self.alloc, key)?;
+        self.replies.promote(key);
         self.count();
         Ok(())
     }
@@ -236,7 +209,7 @@ impl Cache {
             path: Vec::from_slice(self.alloc, path)?,
         };
         if let Some(bytes) = self.peek(&key, close)? {
-            self.hit(key)?;
+            self.hit(&key)?;
             return Ok(bytes);
         }
         let reply = make()?;

@@ -4,7 +4,7 @@ use ox_block::Txid;
 use ox_runestone::{RuneId, Terms};
 
 /// A rune, as its etching made it, and what became of it since.
-#[derive(Clone, Copy, Debug, PartialEq, Eq)]
+#[derive(Clone, Copy, PartialEq, Eq)]
 pub struct RuneRow {
     /// The height of the block that etched it and the place of the transaction in that block.
     pub id: RuneId,

@@ -4,7 +4,7 @@ use ox_block::Txid;
 use ox_sat::Profile;
 
 /// A transaction in its block.
-#[derive(Clone, Copy, Debug, PartialEq, Eq)]
+#[derive(Clone, Copy, PartialEq, Eq)]
 pub struct Spot {
     /// The chain's profile.
     pub profile: Profile,

@@ -8,7 +8,7 @@ use ox_bytes::Bytes;
 use std::alloc::{AllocError, Global};
 
 /// A command of a feed.
-#[derive(Debug, Drop)]
+#[derive(Drop)]
 pub enum Command {
     /// Connect the block that has these bytes.
     Connect(Bytes),

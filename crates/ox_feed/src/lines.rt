@@ -15,7 +15,7 @@ use std::alloc::{AllocError, Global};
 use std::marker::Model;
 
 /// The next line of a feed, or its end.
-#[derive(Debug, Drop)]
+#[derive(Drop)]
 pub enum Line {
     /// A line, without its line feed.
     Text(Bytes),

@@ -2,7 +2,7 @@
 
 /// Where a store stands: the generation of its current file, and how many records that file has.
 /// Positions are ordered by their generation and then by their place.
-#[derive(Clone, Copy, Debug, PartialEq, Eq)]
+#[derive(Clone, Copy, PartialEq, Eq)]
 pub struct Position {
     pub generation: u64,
     pub place: u64,
@@ -10,7 +10,7 @@ pub struct Position {
 
 /// What goes between a leader and a follower. It borrows what is long: a base may have 4 GB, and
 /// neither who reads it nor who shows it needs a copy.
-#[derive(Clone, Copy, Debug)]
+#[derive(Clone, Copy)]
 pub enum Frame<'a> {
     /// A whole current file: the body of its checkpoint, and the profile and the depth of its head.
     /// Its place is 0.

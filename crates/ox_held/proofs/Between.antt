@@ -28,7 +28,7 @@ on_below rows sat =
     All-weaker (λ n. n < 0 + length rows) (λ n. n < length rows) (λ n less. omega (arith, less)) (on rows sat) (below (is_on sat) 0 rows)
 
 module _ (rows : List InsRow) (first end sat : ℕ) (numbers : List ℕ) (e : Some (sat, numbers) ≡ next_on rows first) where
-  is_first : IsFirstOn rows first (sat, numbers)
+  pub is_first : IsFirstOn rows first (sat, numbers)
   is_first = subst (IsNextOn rows first) (sym e) (next_shown rows first)
 
   pub from_first : first ≤ sat

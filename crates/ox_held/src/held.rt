@@ -19,7 +19,6 @@ use ox_model::{OutRow, RuneId, View};
 use std::alloc::Global;
 
 /// What some outputs hold together.
-#[derive(Debug)]
 pub struct Held {
     /// How many satoshis.
     pub value: u64,

@@ -6,7 +6,7 @@ ghost use Rattle.std.specs.List.{flat_map};
 ghost use Rattle.std.specs.List.Sorted.{IsStrictlySortedBy};
 ghost use Rattle.std.specs.Ordering.{nat_cmp};
 ghost use Rattle.ox_inscribe.specs.Inscriptions.{on};
-ghost use Rattle.ox_inscribe.specs.Numbers.{is_among};
+ghost use Rattle.ox_inscribe.specs.Numbers.{IsFirstOn, is_among};
 ghost use Rattle.ox_range.specs.Runs.{AreMaximal, end_of, numbers_of};
 ghost use Rattle.ox_replies.specs.Walk.{on_between};
 
@@ -20,6 +20,8 @@ pub fn next_between<V: View>(live: &V, from: u64, end: u64) -> Option<(u64, &[u3
     ensures told { MatchOption result (on_between (V.index live.now).inscriptions from end ≡ [])
         (λ next. on_between (V.index live.now).inscriptions from end
         ≡ next.1.now ++ on_between (V.index live.now).inscriptions (next.0 + 1) end) }
+    ensures first { IfSome result
+        (λ next. IsFirstOn (V.index live.now).inscriptions from (next.0, next.1.now)) }
     ensures between { IfSome result (λ next. (from ≤ next.0) × (next.0 < end)) }
     ensures there { IfSome result
         (λ next. All (λ n. n < length (V.index live.now).inscriptions) next.1.now) }

@@ -16,7 +16,7 @@ use std::alloc::Global;
 use std::cmp::Ordering;
 
 /// A script, which is ordered by its bytes.
-#[derive(Debug, Drop)]
+#[derive(Drop)]
 pub(crate) struct Lock {
     pub(crate) script: Script,
 }
@@ -62,7 +62,7 @@ impl Ord for Lock {
 
 /// A script and the outpoint of an output that has it. In their order, scripts come first, and
 /// no outpoint stands before the outpoints of a script.
-#[derive(Debug, PartialEq, Eq, PartialOrd, Ord, Drop)]
+#[derive(PartialEq, Eq, PartialOrd, Ord, Drop)]
 pub(crate) struct Key {
     pub(crate) lock: Lock,
     pub(crate) at: Option<OutPoint>,

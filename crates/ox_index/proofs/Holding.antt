@@ -20,7 +20,6 @@ use Rattle.ox_ledger.proofs.Held.{held-remove}
 use Rattle.ox_ledger.proofs.StepLemmas.{amounts_fit}
 use Rattle.ox_ledger.specs.Balanced.{Balanced}
 use Rattle.ox_model.specs.Index.{Index}
-use Rattle.ox_outputs.specs.InOrder.{no_row}
 use Rattle.ox_index.specs.Tables.{with_some}
 use Rattle.ox_index.proofs.Emptying.{same_key}
 use Rattle.ox_index.proofs.Filling.{looked_up, some_found}
@@ -71,7 +70,7 @@ not_empty [] is none = absurd (cc is)
 not_empty (one ∷ more) is none = cc none
 
 no_entry : OutPoint × OutRow
-no_entry = (record { txid = record { 0 = [] }; index = 0 }, no_row)
+no_entry = (record { txid = record { 0 = [] }; index = 0 }, record { script = []; height = 0; sats = [] })
 
 -- within an order there is a row at each place
 pub not_within : (order : List (OutPoint × OutRow)) (n end : ℕ) → end ≡ length order → n < end → None ≡ slice_get order n → ⊥

@@ -6,7 +6,7 @@ use ox_model::Change;
 
 /// How many hashes and lost satoshis count. Those behind them are of a block that was taken back,
 /// and stay until the next command, so that they can count again without memory.
-#[derive(Clone, Copy, Debug, PartialEq, Eq)]
+#[derive(Clone, Copy, PartialEq, Eq)]
 pub struct Lengths {
     pub blocks: usize,
     pub lost: u64,

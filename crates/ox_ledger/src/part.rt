@@ -8,7 +8,7 @@ use ox_bytes::List;
 use ox_etching::RuneRow;
 
 /// What is counted of a rune.
-#[derive(Clone, Copy, Debug, PartialEq, Eq)]
+#[derive(Clone, Copy, PartialEq, Eq)]
 pub struct Counts {
     /// How many mints there were.
     pub mints: u128,
@@ -17,7 +17,7 @@ pub struct Counts {
 }
 
 /// What is counted of the rune at a place, before and after.
-#[derive(Clone, Copy, Debug, PartialEq, Eq)]
+#[derive(Clone, Copy, PartialEq, Eq)]
 pub struct CountChange {
     /// The rune's number.
     pub place: u32,
@@ -28,7 +28,6 @@ pub struct CountChange {
 }
 
 /// What of a change between two states of the ledger is about runes.
-#[derive(Debug)]
 pub struct RunePart {
     /// The balances that are gone, by rising outpoint. One that changed is in both lists.
     pub before: List<Placement>,

@@ -13,7 +13,7 @@ use std::alloc::Global;
 
 /// When a crash comes, and what it leaves: each byte that it may change is `fill`, and each file is
 /// cut to `keep` bytes, as far as the disk allows.
-#[derive(Clone, Copy, Debug, PartialEq, Eq)]
+#[derive(Clone, Copy, PartialEq, Eq)]
 pub struct Choice {
     pub moment: u64,
     pub fill: u8,

@@ -11,7 +11,7 @@ use std::marker::Model;
 
 /// One entry of a link's script: bytes, which may take several hearings; nothing yet, for one
 /// hearing; or the link's end.
-#[derive(Debug, Drop)]
+#[derive(Drop)]
 pub enum Said {
     Bytes(Bytes),
     NotYet,

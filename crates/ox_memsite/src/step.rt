@@ -4,7 +4,7 @@ use ox_bytes::Bytes;
 use ox_outside::{Doorway, Which};
 
 /// One thing that happened: a write or a sync of a file, or an event of a channel.
-#[derive(Debug, Drop)]
+#[derive(Drop)]
 pub enum Step {
     /// These bytes were written into the file at this place.
     Wrote { file: Which, at: u64, bytes: Bytes },

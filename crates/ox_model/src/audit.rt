@@ -5,7 +5,7 @@ use ox_runestone::RuneId;
 
 /// Where a rune is, and where it came from. What is held and what was burned of it, together, is
 /// its premine and what was minted.
-#[derive(Clone, Copy, Debug, PartialEq, Eq)]
+#[derive(Clone, Copy, PartialEq, Eq)]
 pub struct RuneAudit {
     /// The rune.
     pub id: RuneId,
@@ -21,7 +21,7 @@ pub struct RuneAudit {
 
 /// Where all satoshis and all runes of a chain are. What is lost and what outputs hold, together,
 /// is what could be claimed.
-#[derive(Debug, Drop)]
+#[derive(Drop)]
 pub struct Audit {
     /// How many satoshis the blocks of the chain could claim.
     pub claimable: u64,

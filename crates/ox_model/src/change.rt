@@ -8,7 +8,6 @@ use ox_rules::TableRows;
 
 /// What one block changes in the index: with the index before it, it gives the one after it, and
 /// the other way round.
-#[derive(Debug)]
 pub struct Change {
     /// The block's hash, in serialized order.
     pub hash: [u8; 32],

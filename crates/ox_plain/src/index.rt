@@ -10,7 +10,6 @@ use ox_rules::OutRow;
 use std::collections::BTreeMap;
 
 /// An index as plain data. `index_in` of `specs/Plain.antt` says which index it is.
-#[derive(Debug)]
 pub struct Index {
     /// The blocks' hashes, by height, each in serialized order.
     pub hashes: List<[u8; 32]>,

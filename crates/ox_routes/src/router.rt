@@ -1,6 +1,6 @@
 //! The router.
 
-ghost use Rattle.std.specs.Prelude.{◌≡◌, ◌≤◌, List, ℕ, None, Some, MatchOption, OnOk, map, Ok};
+ghost use Rattle.std.specs.Prelude.{◌≡◌, ◌≤◌, List, [], ℕ, None, Some, MatchOption, OnOk, map, Ok};
 ghost use Rattle.std.specs.List.{count_by};
 ghost use Rattle.matchit.specs.Route.{parse_route};
 ghost use Rattle.matchit.specs.Router.{InsertsRead};
@@ -14,7 +14,7 @@ use std::alloc::Global;
 
 /// What a path takes: a route, and the part of the path in the route's braces, which is empty where
 /// the route has none.
-#[derive(Clone, Copy, Debug, PartialEq, Eq)]
+#[derive(Clone, Copy, PartialEq, Eq)]
 pub struct Found<'p> {
     pub route: Route,
     pub part: &'p [u8],
@@ -31,18 +31,7 @@ impl Routes {
     /// The routes. `Memory` where there is none for them.
     pub fn new(alloc: Global) -> Result<Routes, Memory> {
         let mut router = Router::new(alloc);
-        add(&mut router, "/audit", Route::Audit)?;
-        add(&mut router, "/blockhash/{height}", Route::BlockHash)?;
-        add(&mut router, "/connect", Route::Connect)?;
-        add(&mut router, "/content/{id}", Route::Content)?;
-        add(&mut router, "/disconnect", Route::Disconnect)?;
-        add(&mut router, "/inscription/{id}", Route::Inscription)?;
-        add(&mut router, "/inscriptions/{page}", Route::Inscriptions)?;
-        add(&mut router, "/output/{outpoint}", Route::Output)?;
-        add(&mut router, "/rune/{rune}", Route::Rune)?;
-        add(&mut router, "/runes/{page}", Route::Runes)?;
-        add(&mut router, "/sat/{sat}", Route::Sat)?;
-        add(&mut router, "/status", Route::Status)?;
+        add_all(&mut router)?;
         Ok(Routes { router })
     }
 
@@ -76,6 +65,26 @@ impl Routes {
 pub fn one_row_takes_a_path()
     ensures { (path : List ℕ) → count_by (λ route. takes (row_of route) path) routes ≤ 1 }
 {}
+
+/// Adds every route to a router without one.
+fn add_all(router: &mut Router<Route>) -> Result<(), Memory>
+    requires { router.old ≡ [] }
+    ensures { OnOk result (map row_shown router.new ≡ map entry routes) }
+{
+    add(router, "/audit", Route::Audit)?;
+    add(router, "/blockhash/{height}", Route::BlockHash)?;
+    add(router, "/connect", Route::Connect)?;
+    add(router, "/content/{id}", Route::Content)?;
+    add(router, "/disconnect", Route::Disconnect)?;
+    add(router, "/inscription/{id}", Route::Inscription)?;
+    add(router, "/inscriptions/{page}", Route::Inscriptions)?;
+    add(router, "/output/{outpoint}", Route::Output)?;
+    add(router, "/rune/{rune}", Route::Rune)?;
+    add(router, "/runes/{page}", Route::Runes)?;
+    add(router, "/sat/{sat}", Route::Sat)?;
+    add(router, "/status", Route::Status)?;
+    Ok(())
+}
 
 /// Adds a route that can stand beside the others.
 fn add(router: &mut Router<Route>, text: &str, route: Route) -> Result<(), Memory>

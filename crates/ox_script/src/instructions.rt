@@ -76,7 +76,7 @@ fn split_item(op: u8, rest: &[u8]) -> Option<(Item<'_>, &[u8])>
 
 /// The items of a script, from the first to the last. They end where the script does, or at a push
 /// whose length or bytes are cut short by its end.
-#[derive(Debug, Drop)]
+#[derive(Drop)]
 pub struct Instructions<'a> {
     rest: &'a [u8],
     met_cut: bool,

@@ -22,7 +22,7 @@ use std::marker::Model;
 pub use stream::PIECE;
 
 /// What a link asks.
-#[derive(Debug, Drop)]
+#[derive(Drop)]
 pub enum Poll {
     /// A request, which is to be answered before the next is asked.
     Asked(Request),

@@ -27,7 +27,7 @@ pub struct Known {
 }
 
 /// What a stream begins with.
-#[derive(Debug, Drop)]
+#[derive(Drop)]
 pub enum Next {
     /// A whole request, which is cut off.
     Whole(Request),

@@ -1,5 +1,5 @@
 -- What a turn promises, whosever it is.
-use Rattle.std.proofs.Common.{◌≡◌, ◌∙◌, ◌+◌, ◌≤◌, ℕ, arith, List, [], ◌∷◌, ◌++◌, Option, Some, None, refl, sym, subst, inl, inr}
+use Rattle.std.proofs.Common.{◌≡◌, ◌∙◌, ◌+◌, ◌≤◌, ℕ, arith, List, [], ◌∷◌, ◌++◌, Option, Some, None, sym, subst, inl, inr}
 use Rattle.std.specs.Prelude.{IsTrue, Result, Ok, Err, IfErr, OnErr, OnOk}
 use Rattle.ox_outside.specs.Counts.{NoFault, Rose, StopsAtFault}
 use Rattle.ox_outside.specs.Crash.{OneCall}

@@ -1,9 +1,9 @@
 -- What one turn makes.
-use Rattle.std.specs.Prelude.{◌≡◌, ◌⊎◌, ℕ, ◌+◌, ◌≤◌, suc, Bool, true, false, not, IsTrue}
+use Rattle.std.specs.Prelude.{◌≡◌, ◌⊎◌, ℕ, ◌+◌, ◌<◌, ◌≤◌, suc, Bool, true, false, not, IsTrue}
 use Rattle.std.specs.Prelude.{if◌then◌else◌, List, [], ◌∷◌, ◌++◌, All, Option, Some, None, length}
-use Rattle.std.specs.Prelude.{take, drop, Result, Err, OnOk, IsErrOf}
+use Rattle.std.specs.Prelude.{take, drop, Result, Err, OnOk, OnErr, IsErrOf}
 use Rattle.std.specs.Option.{ForSome}
-use Rattle.ox_outside.specs.Counts.{Counts, Rose, StopsAtFault}
+use Rattle.ox_outside.specs.Counts.{Counts, IsFailure, NoFault, Rose, StopsAtFault, greatest}
 use Rattle.ox_outside.specs.Event.{Event, Opened, Heard, Ended, Showed, Broke, GaveUp, Shut}
 use Rattle.ox_outside.specs.Event.{channel_of}
 use Rattle.ox_outside.specs.Event.{has_broken, has_given_up, is_named, is_open, shown_bytes}
@@ -13,6 +13,7 @@ use Rattle.ox_outside.specs.Log.{Adds, Grows}
 use Rattle.ox_outside.specs.Runs.{Calls, LeavesOnly, OnlyTalks}
 use Rattle.ox_outside.specs.Shown.{IsFrontOf}
 use Rattle.ox_outside.specs.declared.site.Doorway.{Doorway}
+use Rattle.ox_outside.specs.declared.site.Failed.{Failed}
 use Rattle.ox_outside.specs.declared.site.Site.{Ghosts as Meanings}
 use Rattle.ox_http.specs.declared.Request.{Request}
 use Rattle.ox_http.specs.First.{First, first_of, fault, more, whole}
@@ -71,6 +72,16 @@ pub record ComesTo {S : Type 0} (means : Meanings S) (came : Came) (c : ℕ) (ol
   pub adds : Adds (λ log. events) (means.log before) (means.log after)
   pub talks : OnlyTalks means (λ added. (added ≡ []) ⊎ (added ≡ events)) before after
 
+-- However the call on a slot's channel ended: the slot keeps its link and its door, a call that
+-- brought nothing was counted, and no call failed but on the channel.
+pub record SlotComes {S : Type 0} (means : Meanings S) (came : Came) (old new : Slot)
+    (before after : S) : Type 0 where
+  pub channel : new.channel ≡ old.channel
+  pub door : new.door ≡ old.door
+  pub idle : came ≡ Nothing → Rose ((means.counts before).not_yets old.channel)
+      ((means.counts after).not_yets old.channel)
+  pub counted : NoFault (means.counts before) (means.counts after)
+
 -- ---- what a session asks
 
 -- What a session comes to of which nothing is due, and the state of the desk: x before and y after.
@@ -119,6 +130,19 @@ StandsForNext server stands operator link x files =
     stands files x
     ⊎ ((request : Request) × (n : ℕ) × (first_of link.heard ≡ whole request n)
     × (link.closing ≡ false) × stands files (state_behind server x operator request))
+
+-- However it ended that a slot answers: it keeps its link and its door, the desk was asked once at
+-- most and left the files as it says, and no call failed but one on a file, which ended it.
+pub record SlotAnswers {S D T : Type 0} (means : Meanings S) (desk : Desk D S)
+    (result : Result T Failed) (old new : Slot) (before after : S) (old_desk new_desk : D)
+    : Type 0 where
+  pub channel : new.channel ≡ old.channel
+  pub door : new.door ≡ old.door
+  pub rests : OnOk result (desk.rests new_desk after)
+  pub asked : desk.asked new_desk ≤ desk.asked old_desk + 1
+  pub failed : OnErr result (Rose (means.counts before).disk (means.counts after).disk)
+  pub counted : StopsAtFault (IsFailure result) ⊥ ⊥ (means.counts before) (means.counts after)
+  pub calls : Calls means before after
 
 -- ---- the turn of a link
 
@@ -267,11 +291,26 @@ pub record TurnCut {X C : Type 0} (server : Server X C) (start : Start X) (since
   pub cut : IsCut server start.state since place events
   pub fronts : ShowsFrontsIn server start.state (since ++ events)
 
+-- so it is for each start from which slots and state follow this log
+abbrev pub FromEach : {X C : Type 0} → Server X C → List (Option Slot) → X → Option (List Event)
+    → (Start X → List Event → Type 0) → Type 0
+FromEach {X = X} server slots now log IsSo =
+    (start : Start X) (since : List Event) → log ≡ Some (start.log ++ since)
+    → Follows server start since slots now → IsSo start since
+
 -- there is a start from which slots and state follow this log
 abbrev pub FollowsSome : {X C : Type 0} → Server X C → List (Option Slot) → X → List Event → Type 0
 FollowsSome {X = X} server slots now log =
     (start : Start X) × (since : List Event) × (log ≡ start.log ++ since)
     × Follows server start since slots now
+
+-- A turn may begin: the files are as the desk left them, it may be asked once more, and there is a
+-- start from which slots and desk follow the log.
+pub record MayTurn {S D : Type 0} (means : Meanings S) (desk : Desk D S)
+    (slots : List (Option Slot)) (before : S) (old : D) : Type 0 where
+  pub rests : desk.rests old before
+  pub asked : desk.asked old < greatest
+  pub follows : ForSome (means.log before) (FollowsSome desk.server slots (desk.state old))
 
 -- What a turn promises, whosever it is and however it ended: of slots before it, of a site and of
 -- a desk.
@@ -279,12 +318,10 @@ pub record TurnPromises {S D T : Type 0} (means : Meanings S) (desk : Desk D S)
     (result : Result T TurnFault) (slots : List (Option Slot)) (before after : S) (old new : D)
     : Type 0 where
   -- at each moment a crash leaves files and a log that survive, from each start that they follow
-  pub survives : (start : Start desk.State) (since : List Event)
-      → means.log before ≡ Some (start.log ++ since)
-      → Follows desk.server start since slots (desk.state old)
-      → IsTrue (means.told before) → LeavesOnly means before after (λ r. Grows (λ events.
+  pub survives : FromEach desk.server slots (desk.state old) (means.log before) (λ start since.
+      IsTrue (means.told before) → LeavesOnly means before after (λ r. Grows (λ events.
       Survives desk.server start.state desk.stands (since ++ events) r.files)
-      (means.log before) (Some r.log))
+      (means.log before) (Some r.log)))
   pub untold : means.log before ≡ None → means.log after ≡ None
   pub rests : OnOk result (desk.rests new after)
   pub asked : desk.asked new ≤ desk.asked old + 1

@@ -15,7 +15,7 @@ use ox_http::Request;
 use ox_outside::Site;
 
 /// A reply, as it is made.
-#[derive(Debug, Drop)]
+#[derive(Drop)]
 pub struct Made {
     /// The bytes of the whole reply.
     pub bytes: Bytes,

@@ -1,16 +1,15 @@
 //! The turn of a link: one call on its channel, and what its session asks then.
 
-ghost use Rattle.std.specs.Prelude.{◌≡◌, ◌++◌, ◌≢◌, ◌+◌, ◌<◌, ◌≤◌, List, [], length, true, false};
-ghost use Rattle.std.specs.Prelude.{Some, None};
-ghost use Rattle.std.specs.Prelude.{IsTrue, IfOk, OnOk, OnErr};
+ghost use Rattle.std.specs.Prelude.{◌≡◌, ◌++◌, ◌<◌, ◌≤◌, List, [], length, true, false};
+ghost use Rattle.std.specs.Prelude.{Some, None, IsTrue, IfOk, OnErr};
 ghost use Rattle.std.specs.Option.{ForSome};
-ghost use Rattle.ox_outside.specs.Counts.{IsFailure, NoFault, Rose, StopsAtFault, greatest};
+ghost use Rattle.ox_outside.specs.Counts.{NoFault, greatest};
 ghost use Rattle.ox_outside.specs.Crash.{LeavesFiles, OneCall};
 ghost use Rattle.ox_outside.specs.Event.{Event, give_up_events, has_broken};
 ghost use Rattle.ox_outside.specs.Event.{has_given_up, is_open};
 ghost use Rattle.ox_outside.specs.Event.{is_there};
 ghost use Rattle.ox_outside.specs.Log.{Adds, Grows};
-ghost use Rattle.ox_outside.specs.Runs.{Calls, LeavesOnly};
+ghost use Rattle.ox_outside.specs.Runs.{LeavesOnly};
 ghost use Rattle.ox_http.specs.First.{first_of, whole};
 ghost use Rattle.ox_http.specs.Written.{unavailable};
 ghost use Rattle.ox_links.specs.Link.{is_operator};
@@ -19,7 +18,8 @@ ghost use Rattle.ox_links.specs.Serving.{Serving, served_by};
 ghost use Rattle.ox_links.specs.Survives.{Survives};
 ghost use Rattle.ox_turns.specs.Follows.{LinkFollows};
 ghost use Rattle.ox_turns.specs.Turn.{Asks, ComesTo, DeskGoes, Goes, IsGoing, IsReady, LinkCut};
-ghost use Rattle.ox_turns.specs.Turn.{LinkTurns, ShowsFronts, StandsForNext};
+ghost use Rattle.ox_turns.specs.Turn.{LinkTurns, ShowsFronts, SlotAnswers, SlotComes};
+ghost use Rattle.ox_turns.specs.Turn.{StandsForNext};
 
 use crate::slot::Slot;
 use crate::{Desk, DeskFault};
@@ -61,12 +61,7 @@ fn hear<S: Site>(slot: &mut Slot, room: &mut [u8], site: &mut S) -> Came
     requires whole { ForSome (S.log site.old) (λ log. has_broken slot.old.channel log ≡ false) }
     ensures comes { ComesTo S.Site result slot.old.channel slot.old.session slot.new.session
         site.old site.new }
-    ensures channel { slot.new.channel ≡ slot.old.channel }
-    ensures door { slot.new.door ≡ slot.old.door }
-    ensures idle { result ≡ Came.Nothing
-        → Rose ((S.counts site.old).not_yets slot.old.channel)
-        ((S.counts site.new).not_yets slot.old.channel) }
-    ensures counted { NoFault (S.counts site.old) (S.counts site.new) }
+    ensures keeps { SlotComes S.Site result slot.old slot.new site.old site.new }
 {
     match site.hear(slot.channel, room) {
         Ok(Heard::Bytes(n)) => match slot.session.heard(room.split_at(n).0) {
@@ -86,12 +81,7 @@ fn show<S: Site>(slot: &mut Slot, site: &mut S) -> Came
     requires whole { ForSome (S.log site.old) (λ log. has_broken slot.old.channel log ≡ false) }
     ensures comes { ComesTo S.Site result slot.old.channel slot.old.session slot.new.session
         site.old site.new }
-    ensures channel { slot.new.channel ≡ slot.old.channel }
-    ensures door { slot.new.door ≡ slot.old.door }
-    ensures idle { result ≡ Came.Nothing
-        → Rose ((S.counts site.old).not_yets slot.old.channel)
-        ((S.counts site.new).not_yets slot.old.channel) }
-    ensures counted { NoFault (S.counts site.old) (S.counts site.new) }
+    ensures keeps { SlotComes S.Site result slot.old slot.new site.old site.new }
 {
     match site.show(slot.channel, slot.session.due()) {
         Ok(Shown::Took(n)) => {
@@ -115,12 +105,7 @@ fn call<S: Site>(slot: &mut Slot, room: &mut [u8], site: &mut S) -> Came
     requires whole { ForSome (S.log site.old) (λ log. has_broken slot.old.channel log ≡ false) }
     ensures comes { ComesTo S.Site result slot.old.channel slot.old.session slot.new.session
         site.old site.new }
-    ensures channel { slot.new.channel ≡ slot.old.channel }
-    ensures door { slot.new.door ≡ slot.old.door }
-    ensures idle { result ≡ Came.Nothing
-        → Rose ((S.counts site.old).not_yets slot.old.channel)
-        ((S.counts site.new).not_yets slot.old.channel) }
-    ensures counted { NoFault (S.counts site.old) (S.counts site.new) }
+    ensures keeps { SlotComes S.Site result slot.old slot.new site.old site.new }
 {
     if slot.session.due().is_empty() {
         hear(slot, room, site)
@@ -143,19 +128,14 @@ fn ask<S: Site, D: Desk<S>>(
         slot.old.session slot.new.session (D.state desk.old) (D.state desk.new)) }
     ensures desk { IfOk result (λ next. DeskGoes D.moved D.same (is_operator slot.old.door) next
         (whole request.now 0) desk.old desk.new) }
-    ensures channel { slot.new.channel ≡ slot.old.channel }
-    ensures door { slot.new.door ≡ slot.old.door }
-    ensures rests { OnOk result (D.rests desk.new site.new) }
-    ensures asked { D.asked desk.new ≤ D.asked desk.old + 1 }
+    ensures keeps { SlotAnswers S.Site D.Desk result slot.old slot.new site.old site.new
+        desk.old desk.new }
     ensures any_moment { IsTrue (S.told site.old) → LeavesOnly S.Site site.old site.new (λ r.
         StandsForEither D.stands (D.state desk.old)
         (state_behind D.server (D.state desk.old) (is_operator slot.old.door) request.now)
         r.files) }
     ensures log_stays { LeavesOnly S.Site site.old site.new (λ r. S.log site.old ≡ Some r.log) }
     ensures logged { S.log site.new ≡ S.log site.old }
-    ensures failed { OnErr result (Rose (S.counts site.old).disk (S.counts site.new).disk) }
-    ensures counted { StopsAtFault (IsFailure result) ⊥ ⊥ (S.counts site.old) (S.counts site.new) }
-    ensures calls { Calls S.Site site.old site.new }
 {
     match desk.ask(site, request, slot.is_operators()) {
         Ok(made) => {
@@ -179,18 +159,13 @@ fn answer<S: Site, D: Desk<S>>(slot: &mut Slot, site: &mut S, desk: &mut D) -> R
         slot.old.session slot.new.session (D.state desk.old) (D.state desk.new)) }
     ensures desk { IfOk result (λ next. DeskGoes D.moved D.same (is_operator slot.old.door) next
         (first_of slot.old.session.heard) desk.old desk.new) }
-    ensures channel { slot.new.channel ≡ slot.old.channel }
-    ensures door { slot.new.door ≡ slot.old.door }
-    ensures rests { OnOk result (D.rests desk.new site.new) }
-    ensures asked { D.asked desk.new ≤ D.asked desk.old + 1 }
+    ensures keeps { SlotAnswers S.Site D.Desk result slot.old slot.new site.old site.new
+        desk.old desk.new }
     ensures any_moment { IsTrue (S.told site.old) → LeavesOnly S.Site site.old site.new (λ r.
         StandsForNext D.server D.stands (is_operator slot.old.door) slot.old.session
         (D.state desk.old) r.files) }
     ensures log_stays { LeavesOnly S.Site site.old site.new (λ r. S.log site.old ≡ Some r.log) }
     ensures logged { S.log site.new ≡ S.log site.old }
-    ensures failed { OnErr result (Rose (S.counts site.old).disk (S.counts site.new).disk) }
-    ensures counted { StopsAtFault (IsFailure result) ⊥ ⊥ (S.counts site.old) (S.counts site.new) }
-    ensures calls { Calls S.Site site.old site.new }
 {
     match slot.session.poll() {
         Ok(Poll::Asked(request)) => ask(slot, &request, site, desk),
@@ -255,13 +230,8 @@ pub(crate) fn step_link<S: Site, D: Desk<S>>(
         (Some r.log)) }
     ensures untold { S.log site.old ≡ None → S.log site.new ≡ None }
     ensures ready { IfOk result (λ over. over ≡ false → IsReady slot.new.session) }
-    ensures channel { slot.new.channel ≡ slot.old.channel }
-    ensures door { slot.new.door ≡ slot.old.door }
-    ensures rests { OnOk result (D.rests desk.new site.new) }
-    ensures asked { D.asked desk.new ≤ D.asked desk.old + 1 }
-    ensures failed { OnErr result (Rose (S.counts site.old).disk (S.counts site.new).disk) }
-    ensures counted { StopsAtFault (IsFailure result) ⊥ ⊥ (S.counts site.old) (S.counts site.new) }
-    ensures calls { Calls S.Site site.old site.new }
+    ensures keeps { SlotAnswers S.Site D.Desk result slot.old slot.new site.old site.new
+        desk.old desk.new }
 {
     match call(slot, room, site) {
         Came::Nothing => Ok(false),

@@ -1,19 +1,18 @@
 //! The slots of a server, and the rotation.
 
-ghost use Rattle.std.specs.Prelude.{◌≡◌, ◌≢◌, ◌<◌, ◌≤◌, ◌+◌, ◌++◌, List, true, Some, None};
+ghost use Rattle.std.specs.Prelude.{◌≡◌, ◌≢◌, ◌<◌, ◌≤◌, ◌+◌, ◌++◌, true, Some, None};
 ghost use Rattle.std.specs.Prelude.{IfOk, IfErr, OnOk, OnErr, IfSome, IsSome};
 ghost use Rattle.std.specs.Prelude.{is_some, get_or, length, replicate, set, vec_len};
 ghost use Rattle.std.specs.List.{list_any};
 ghost use Rattle.std.specs.Option.{ForSome};
 ghost use Rattle.ox_outside.specs.Counts.{NoFault, Rose, greatest};
 ghost use Rattle.ox_outside.specs.Crash.{LeavesFiles, OneCall};
-ghost use Rattle.ox_outside.specs.Event.{Event};
 ghost use Rattle.ox_links.specs.Rotation.{Who, is_free, link_of, places};
 ghost use Rattle.ox_links.specs.Serving.{served_by};
-ghost use Rattle.ox_turns.specs.Follows.{Follows, Holds, Start};
+ghost use Rattle.ox_turns.specs.Follows.{Holds};
 ghost use Rattle.ox_turns.specs.Places.{IsFirstOn, IsLowestFree, IsNext, IsSeated, channels_of};
-ghost use Rattle.ox_turns.specs.Turn.{CutOf, DoorComes, FollowsSome, LinkCut, OneTurn};
-ghost use Rattle.ox_turns.specs.Turn.{TurnCut, TurnOf, TurnPromises};
+ghost use Rattle.ox_turns.specs.Turn.{CutOf, DoorComes, FollowsSome, FromEach, LinkCut, MayTurn};
+ghost use Rattle.ox_turns.specs.Turn.{OneTurn, TurnCut, TurnOf, TurnPromises};
 ghost use Rattle.ox_turns.specs.declared.slot.Slot.{Slot as Held};
 
 use crate::slot::Slot;
@@ -231,22 +230,15 @@ impl Turns {
         desk: &mut D,
     ) -> Result<(), TurnFault>
         requires held { IsSome (get_or self.old.slots at None) }
-        requires rests { D.rests desk.old site.old }
-        requires asked { D.asked desk.old < greatest }
-        requires follows { ForSome (S.log site.old)
-            (FollowsSome D.server self.old.slots (D.state desk.old)) }
-        ensures turn { (start : Start D.State) (since : List Event) (slot : Held)
-            → S.log site.old ≡ Some (start.log ++ since)
-            → Follows D.server start since self.old.slots (D.state desk.old)
-            → Holds self.old.slots at slot → OnOk result (TurnOf S.Site D.server D.moved D.same
-            start since (link_of slot.channel) self.new.slots site.old site.new (D.state desk.new)
-            desk.old desk.new) }
-        ensures cut { (start : Start D.State) (since : List Event) (slot : Held)
-            → S.log site.old ≡ Some (start.log ++ since)
-            → Follows D.server start since self.old.slots (D.state desk.old)
-            → Holds self.old.slots at slot → OnErr result (LinkCut D.server
-            (served_by D.server start.state since) (start.log ++ since) slot.channel
-            (S.log site.new)) }
+        requires may { MayTurn S.Site D.Desk self.old.slots site.old desk.old }
+        ensures turn { FromEach D.server self.old.slots (D.state desk.old) (S.log site.old)
+            (λ start since. (slot : Held) → Holds self.old.slots at slot → OnOk result (
+            TurnOf S.Site D.server D.moved D.same start since (link_of slot.channel) self.new.slots
+            site.old site.new (D.state desk.new) desk.old desk.new)) }
+        ensures cut { FromEach D.server self.old.slots (D.state desk.old) (S.log site.old)
+            (λ start since. (slot : Held) → Holds self.old.slots at slot → OnErr result (
+            LinkCut D.server (served_by D.server start.state since) (start.log ++ since)
+            slot.channel (S.log site.new))) }
         ensures promises { TurnPromises S.Site D.Desk result self.old.slots site.old site.new
             desk.old desk.new }
         ensures place { self.new.place ≡ self.old.place }
@@ -276,21 +268,14 @@ impl Turns {
         desk: &mut D,
     ) -> Result<(), TurnFault>
         requires on { IsSome (get_or (places (channels_of self.old.slots)) at None) }
-        requires rests { D.rests desk.old site.old }
-        requires asked { D.asked desk.old < greatest }
-        requires follows { ForSome (S.log site.old)
-            (FollowsSome D.server self.old.slots (D.state desk.old)) }
-        ensures turn { (start : Start D.State) (since : List Event) (who : Who)
-            → S.log site.old ≡ Some (start.log ++ since)
-            → Follows D.server start since self.old.slots (D.state desk.old)
-            → get_or (places (channels_of self.old.slots)) at None ≡ Some who → OnOk result (
-            TurnOf S.Site D.server D.moved D.same start since who self.new.slots site.old site.new
-            (D.state desk.new) desk.old desk.new) }
-        ensures cut { (start : Start D.State) (since : List Event) (who : Who)
-            → S.log site.old ≡ Some (start.log ++ since)
-            → Follows D.server start since self.old.slots (D.state desk.old)
-            → get_or (places (channels_of self.old.slots)) at None ≡ Some who → OnErr result (
-            CutOf D.server start since who (S.log site.new)) }
+        requires may { MayTurn S.Site D.Desk self.old.slots site.old desk.old }
+        ensures turn { FromEach D.server self.old.slots (D.state desk.old) (S.log site.old)
+            (λ start since. (who : Who) → get_or (places (channels_of self.old.slots)) at None
+            ≡ Some who → OnOk result (TurnOf S.Site D.server D.moved D.same start since who
+            self.new.slots site.old site.new (D.state desk.new) desk.old desk.new)) }
+        ensures cut { FromEach D.server self.old.slots (D.state desk.old) (S.log site.old)
+            (λ start since. (who : Who) → get_or (places (channels_of self.old.slots)) at None
+            ≡ Some who → OnErr result (CutOf D.server start since who (S.log site.new))) }
         ensures promises { TurnPromises S.Site D.Desk result self.old.slots site.old site.new
             desk.old desk.new }
         ensures place { self.new.place ≡ self.old.place }
@@ -316,15 +301,12 @@ impl Turns {
         requires asked { D.asked desk.old < greatest }
         requires follows { ForSome (S.log site.old)
             (FollowsSome D.server self.old.slots (D.state desk.old)) }
-        ensures turn { (start : Start D.State) (since : List Event)
-            → S.log site.old ≡ Some (start.log ++ since)
-            → Follows D.server start since self.old.slots (D.state desk.old) → OnOk result (
-            OneTurn S.Site D.server D.moved D.same start since self.old self.new site.old site.new
-            (D.state desk.new) desk.old desk.new) }
-        ensures cut { (start : Start D.State) (since : List Event)
-            → S.log site.old ≡ Some (start.log ++ since)
-            → Follows D.server start since self.old.slots (D.state desk.old) → OnErr result (
-            TurnCut D.server start since self.old.place (S.log site.new)) }
+        ensures turn { FromEach D.server self.old.slots (D.state desk.old) (S.log site.old)
+            (λ start since. OnOk result (OneTurn S.Site D.server D.moved D.same start since self.old
+            self.new site.old site.new (D.state desk.new) desk.old desk.new)) }
+        ensures cut { FromEach D.server self.old.slots (D.state desk.old) (S.log site.old)
+            (λ start since. OnErr result (
+            TurnCut D.server start since self.old.place (S.log site.new))) }
         ensures promises { TurnPromises S.Site D.Desk result self.old.slots site.old site.new
             desk.old desk.new }
     {

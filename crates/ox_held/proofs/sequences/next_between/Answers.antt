@@ -1,4 +1,4 @@
-use Rattle.ox_held.proofs.Between.{from_first, none_between, one_between, past_end, there_between}
+use Rattle.ox_held.proofs.Between.{from_first, is_first, none_between, one_between, past_end, there_between}
 use Rattle.ox_held.proofs.sequences.next_between.Goals.{in_default-via-in-Some+else-sat-end, in_default-via-in_default}
 use Rattle.ox_held.proofs.sequences.next_between.Goals as goal
 
@@ -8,6 +8,7 @@ returns-in-Some g c =
     let of = c.in-Some.ensures in
     record {
       told = one_between rows c.args.from c.args.end c.in-Some.sat c.in-Some.numbers.now of c.if-sat-end.true;
+      first = is_first rows c.args.from c.args.end c.in-Some.sat c.in-Some.numbers.now of;
       between = (from_first rows c.args.from c.args.end c.in-Some.sat c.in-Some.numbers.now of, c.if-sat-end.true);
       there = there_between rows c.args.from c.args.end c.in-Some.sat c.in-Some.numbers.now of;
     }

@@ -21,42 +21,42 @@ pub give_up-requires-clause-open : goal.give_up-requires-clause-open
 give_up-requires-clause-open g c x is =
     let S = g.S.Site in
     let still = going_on_still c.args.slot.now.channel S More c.args.slot.now.session c.call.new.slot.session c.args.site.now c.call.new.site c.in-More.ensures.comes c.requires.goes_on x (sym c.in-Ok-NoMemory.ensures.logged ∙ is) in
-    subst (λ (k : ℕ). IsTrue (is_open k x)) (sym (c.in-Ok-NoMemory.ensures.channel ∙ c.in-More.ensures.channel)) still.0
+    subst (λ (k : ℕ). IsTrue (is_open k x)) (sym (c.in-Ok-NoMemory.ensures.keeps.channel ∙ c.in-More.ensures.keeps.channel)) still.0
 
 pub give_up-requires-clause-once : goal.give_up-requires-clause-once
 give_up-requires-clause-once g c x is =
     let S = g.S.Site in
     let goes = subst (λ (n : Next). Goes g.D.Desk.server (is_operator c.call.new.slot.door) n c.call.new.slot.session c.answer.new.slot.session (g.D.Desk.state c.args.desk.now) (g.D.Desk.state c.answer.new.desk)) c.in-Ok-NoMemory.field-0-is c.in-Ok-NoMemory.ensures.goes in
     let still = going_on_still c.args.slot.now.channel S More c.args.slot.now.session c.call.new.slot.session c.args.site.now c.call.new.site c.in-More.ensures.comes c.requires.goes_on x (sym c.in-Ok-NoMemory.ensures.logged ∙ is) in
-    subst (λ (k : ℕ). has_given_up k x ≡ false) (sym (c.in-Ok-NoMemory.ensures.channel ∙ c.in-More.ensures.channel)) (still.1 goes.0)
+    subst (λ (k : ℕ). has_given_up k x ≡ false) (sym (c.in-Ok-NoMemory.ensures.keeps.channel ∙ c.in-More.ensures.keeps.channel)) (still.1 goes.0)
 
 pub shut-requires : goal.shut-requires
 shut-requires g c = record {
   channel = λ x is.
       let S = g.S.Site in
       let still = going_on_still c.args.slot.now.channel S More c.args.slot.now.session c.call.new.slot.session c.args.site.now c.call.new.site c.in-More.ensures.comes c.requires.goes_on x (sym c.in-Ok-Over.ensures.logged ∙ is) in
-      subst (λ (k : ℕ). IsTrue (is_open k x)) (sym (c.in-Ok-Over.ensures.channel ∙ c.in-More.ensures.channel)) still.0;
+      subst (λ (k : ℕ). IsTrue (is_open k x)) (sym (c.in-Ok-Over.ensures.keeps.channel ∙ c.in-More.ensures.keeps.channel)) still.0;
 }
 
 pub give_up-requires-in-NoMemory-clause-open : goal.give_up-requires-in-NoMemory-clause-open
 give_up-requires-in-NoMemory-clause-open g c x is =
     let S = g.S.Site in
     let still = going_on_still c.args.slot.now.channel S NoMemory c.args.slot.now.session c.call.new.slot.session c.args.site.now c.call.new.site c.in-NoMemory.ensures.comes c.requires.goes_on x is in
-    subst (λ (k : ℕ). IsTrue (is_open k x)) (sym c.in-NoMemory.ensures.channel) still.0
+    subst (λ (k : ℕ). IsTrue (is_open k x)) (sym c.in-NoMemory.ensures.keeps.channel) still.0
 
 pub give_up-requires-in-NoMemory-clause-once : goal.give_up-requires-in-NoMemory-clause-once
 give_up-requires-in-NoMemory-clause-once g c x is =
     let S = g.S.Site in
     let comes = c.in-NoMemory.ensures.comes in
     let still = going_on_still c.args.slot.now.channel S NoMemory c.args.slot.now.session c.call.new.slot.session c.args.site.now c.call.new.site comes c.requires.goes_on x is in
-    subst (λ (k : ℕ). has_given_up k x ≡ false) (sym c.in-NoMemory.ensures.channel) (still.1 (ap (λ (l : Link). l.closing) comes.comes.3 ∙ c.requires.ready.at_rest.goes_on comes.comes.0))
+    subst (λ (k : ℕ). has_given_up k x ≡ false) (sym c.in-NoMemory.ensures.keeps.channel) (still.1 (ap (λ (l : Link). l.closing) comes.comes.3 ∙ c.requires.ready.at_rest.goes_on comes.comes.0))
 
 pub shut-requires-in-Over : goal.shut-requires-in-Over
 shut-requires-in-Over g c = record {
   channel = λ x is.
       let S = g.S.Site in
       let still = going_on_still c.args.slot.now.channel S Over c.args.slot.now.session c.call.new.slot.session c.args.site.now c.call.new.site c.in-Over.ensures.comes c.requires.goes_on x is in
-      subst (λ (k : ℕ). IsTrue (is_open k x)) (sym c.in-Over.ensures.channel) still.0;
+      subst (λ (k : ℕ). IsTrue (is_open k x)) (sym c.in-Over.ensures.keeps.channel) still.0;
 }
 
 pub returns-in-Part-clause-turn : goal.returns-in-Part-clause-turn
@@ -67,7 +67,7 @@ returns-in-Part-clause-turn g c log run is follows fronts state =
 pub returns-in-Ok-Rests-clause-turn : goal.returns-in-Ok-Rests-clause-turn
 returns-in-Ok-Rests-clause-turn g c log run is follows fronts state =
     let came = c.in-More.ensures.comes in
-    let door = c.in-More.ensures.door in
+    let door = c.in-More.ensures.keeps.door in
     let goes = subst (λ (n : Next). Goes g.D.Desk.server (is_operator c.call.new.slot.door) n c.call.new.slot.session c.answer.new.slot.session (g.D.Desk.state c.args.desk.now) (g.D.Desk.state c.answer.new.desk)) c.in-Ok-Rests.field-0-is c.in-Ok-Rests.ensures.goes in
     let goes = subst (λ (d : Doorway). Goes g.D.Desk.server (is_operator d) Rests c.call.new.slot.session c.answer.new.slot.session (g.D.Desk.state c.args.desk.now) (g.D.Desk.state c.answer.new.desk)) door goes in
     let goes = subst (λ (x : g.D.Desk.State). Goes g.D.Desk.server (is_operator c.args.slot.now.door) Rests c.call.new.slot.session c.answer.new.slot.session x (g.D.Desk.state c.answer.new.desk)) state goes in
@@ -78,25 +78,25 @@ returns-in-Ok-Rests-clause-turn g c log run is follows fronts state =
 pub returns-in-Ok-NoMemory-clause-turn : goal.returns-in-Ok-NoMemory-clause-turn
 returns-in-Ok-NoMemory-clause-turn g c log run is follows fronts state =
     let came = c.in-More.ensures.comes in
-    let door = c.in-More.ensures.door in
+    let door = c.in-More.ensures.keeps.door in
     let goes = subst (λ (n : Next). Goes g.D.Desk.server (is_operator c.call.new.slot.door) n c.call.new.slot.session c.answer.new.slot.session (g.D.Desk.state c.args.desk.now) (g.D.Desk.state c.answer.new.desk)) c.in-Ok-NoMemory.field-0-is c.in-Ok-NoMemory.ensures.goes in
     let goes = subst (λ (d : Doorway). Goes g.D.Desk.server (is_operator d) NoneLeft c.call.new.slot.session c.answer.new.slot.session (g.D.Desk.state c.args.desk.now) (g.D.Desk.state c.answer.new.desk)) door goes in
     let goes = subst (λ (x : g.D.Desk.State). Goes g.D.Desk.server (is_operator c.args.slot.now.door) NoneLeft c.call.new.slot.session c.answer.new.slot.session x (g.D.Desk.state c.answer.new.desk)) state goes in
     let desk = subst (λ (n : Next). DeskGoes g.D.Desk.moved g.D.Desk.same (is_operator c.call.new.slot.door) n (first_of c.call.new.slot.session.heard) c.args.desk.now c.answer.new.desk) c.in-Ok-NoMemory.field-0-is c.in-Ok-NoMemory.ensures.desk in
     let desk = subst (λ (d : Doorway). DeskGoes g.D.Desk.moved g.D.Desk.same (is_operator d) NoneLeft (first_of c.call.new.slot.session.heard) c.args.desk.now c.answer.new.desk) door desk in
-    let up = subst (λ (k : ℕ). Adds (give_up_events k) (g.S.Site.log c.answer.new.site) (g.S.Site.log c.give_up.new.site)) (c.in-Ok-NoMemory.ensures.channel ∙ c.in-More.ensures.channel) c.give_up.ensures.logged in
+    let up = subst (λ (k : ℕ). Adds (give_up_events k) (g.S.Site.log c.answer.new.site) (g.S.Site.log c.give_up.new.site)) (c.in-Ok-NoMemory.ensures.keeps.channel ∙ c.in-More.ensures.keeps.channel) c.give_up.ensures.logged in
     made_up g.S.Site g.D.Desk.server g.met.D.Desk.http g.D.Desk.moved g.D.Desk.same run log c.args.slot.now.channel c.args.slot.now.door c.args.slot.now.session follows fronts c.args.site.now c.give_up.new.site (g.D.Desk.state c.answer.new.desk) c.args.desk.now c.answer.new.desk came.events c.call.new.slot.session came.comes (g.S.Site.log c.call.new.site) came.adds is c.answer.new.slot.session c.give_up.new.slot.session (g.S.Site.log c.answer.new.site) c.in-Ok-NoMemory.ensures.logged up goes desk c.requires.ready.listens c.give_up.ensures.due
 
 pub returns-in-Ok-Over-clause-turn : goal.returns-in-Ok-Over-clause-turn
 returns-in-Ok-Over-clause-turn g c log run is follows fronts state =
     let came = c.in-More.ensures.comes in
-    let door = c.in-More.ensures.door in
+    let door = c.in-More.ensures.keeps.door in
     let goes = subst (λ (n : Next). Goes g.D.Desk.server (is_operator c.call.new.slot.door) n c.call.new.slot.session c.answer.new.slot.session (g.D.Desk.state c.args.desk.now) (g.D.Desk.state c.answer.new.desk)) c.in-Ok-Over.field-0-is c.in-Ok-Over.ensures.goes in
     let goes = subst (λ (d : Doorway). Goes g.D.Desk.server (is_operator d) Ends c.call.new.slot.session c.answer.new.slot.session (g.D.Desk.state c.args.desk.now) (g.D.Desk.state c.answer.new.desk)) door goes in
     let goes = subst (λ (x : g.D.Desk.State). Goes g.D.Desk.server (is_operator c.args.slot.now.door) Ends c.call.new.slot.session c.answer.new.slot.session x (g.D.Desk.state c.answer.new.desk)) state goes in
     let desk = subst (λ (n : Next). DeskGoes g.D.Desk.moved g.D.Desk.same (is_operator c.call.new.slot.door) n (first_of c.call.new.slot.session.heard) c.args.desk.now c.answer.new.desk) c.in-Ok-Over.field-0-is c.in-Ok-Over.ensures.desk in
     let desk = subst (λ (d : Doorway). DeskGoes g.D.Desk.moved g.D.Desk.same (is_operator d) Ends (first_of c.call.new.slot.session.heard) c.args.desk.now c.answer.new.desk) door desk in
-    let shut = subst (λ (k : ℕ). Adds (shut_events k) (g.S.Site.log c.answer.new.site) (g.S.Site.log c.shut.new.self)) (c.in-Ok-Over.ensures.channel ∙ c.in-More.ensures.channel) c.shut.ensures.logged in
+    let shut = subst (λ (k : ℕ). Adds (shut_events k) (g.S.Site.log c.answer.new.site) (g.S.Site.log c.shut.new.self)) (c.in-Ok-Over.ensures.keeps.channel ∙ c.in-More.ensures.keeps.channel) c.shut.ensures.logged in
     made_over g.S.Site g.D.Desk.server g.met.D.Desk.http g.D.Desk.moved g.D.Desk.same run log c.args.slot.now.channel c.args.slot.now.door c.args.slot.now.session follows fronts c.args.site.now c.shut.new.self (g.D.Desk.state c.answer.new.desk) c.args.desk.now c.answer.new.desk came.events c.call.new.slot.session came.comes (g.S.Site.log c.call.new.site) came.adds is c.answer.new.slot.session (g.S.Site.log c.answer.new.site) c.in-Ok-Over.ensures.logged shut goes desk
 
 pub returns-in-Err-clause-cut : goal.returns-in-Err-clause-cut
@@ -107,13 +107,13 @@ returns-in-Err-clause-cut g c log run is follows fronts =
 pub returns-in-NoMemory-clause-turn : goal.returns-in-NoMemory-clause-turn
 returns-in-NoMemory-clause-turn g c log run is follows fronts state =
     let came = c.in-NoMemory.ensures.comes in
-    let up = subst (λ (k : ℕ). Adds (give_up_events k) (g.S.Site.log c.call.new.site) (g.S.Site.log c.give_up-in-NoMemory.new.site)) c.in-NoMemory.ensures.channel c.give_up-in-NoMemory.ensures.logged in
+    let up = subst (λ (k : ℕ). Adds (give_up_events k) (g.S.Site.log c.call.new.site) (g.S.Site.log c.give_up-in-NoMemory.new.site)) c.in-NoMemory.ensures.keeps.channel c.give_up-in-NoMemory.ensures.logged in
     made_no_memory g.S.Site g.D.Desk.server g.met.D.Desk.http g.D.Desk.moved g.D.Desk.same run log c.args.slot.now.channel c.args.slot.now.door c.args.slot.now.session follows fronts c.args.site.now c.give_up-in-NoMemory.new.site (g.D.Desk.state c.args.desk.now) c.args.desk.now c.args.desk.now came.events c.call.new.slot.session c.give_up-in-NoMemory.new.slot.session (g.S.Site.log c.call.new.site) came.comes came.adds is up state refl c.give_up-in-NoMemory.ensures.due
 
 pub returns-in-Over-clause-turn : goal.returns-in-Over-clause-turn
 returns-in-Over-clause-turn g c log run is follows fronts state =
     let came = c.in-Over.ensures.comes in
-    let shut = subst (λ (k : ℕ). Adds (shut_events k) (g.S.Site.log c.call.new.site) (g.S.Site.log c.shut-in-Over.new.self)) c.in-Over.ensures.channel c.shut-in-Over.ensures.logged in
+    let shut = subst (λ (k : ℕ). Adds (shut_events k) (g.S.Site.log c.call.new.site) (g.S.Site.log c.shut-in-Over.new.self)) c.in-Over.ensures.keeps.channel c.shut-in-Over.ensures.logged in
     made_end g.S.Site g.D.Desk.server g.met.D.Desk.http g.D.Desk.moved g.D.Desk.same run log c.args.slot.now.channel c.args.slot.now.door c.args.slot.now.session follows fronts c.args.site.now c.shut-in-Over.new.self (g.D.Desk.state c.args.desk.now) c.args.desk.now c.args.desk.now came.events c.call.new.slot.session c.call.new.slot.session (g.S.Site.log c.call.new.site) came.comes came.adds is shut state refl
 
 pub returns-in-Nothing-clause-survives : goal.returns-in-Nothing-clause-survives
@@ -129,34 +129,34 @@ returns-in-Part-clause-survives g c past since first is follows fronts state tol
 pub returns-in-Ok-Rests-clause-survives : goal.returns-in-Ok-Rests-clause-survives
 returns-in-Ok-Rests-clause-survives g c past since first is follows fronts state told =
     let stood : (r : Remains) → g.S.Site.may_leave c.args.site.now r → g.D.Desk.stands r.files (served_by g.D.Desk.server first since).state = λ r left. subst (λ (x : g.D.Desk.State). g.D.Desk.stands r.files x) state (g.met.D.Desk.rests_stands c.args.desk.now c.args.site.now told c.requires.rests r left) in
-    let files = subst (λ (d : Doorway). LeavesOnly g.S.Site c.call.new.site c.answer.new.site (λ r. StandsForNext g.D.Desk.server g.D.Desk.stands (is_operator d) c.call.new.slot.session (g.D.Desk.state c.args.desk.now) r.files)) c.in-More.ensures.door (c.in-Ok-Rests.ensures.any_moment (c.in-More.ensures.comes.talks.calls.as_told ∙ told)) in
+    let files = subst (λ (d : Doorway). LeavesOnly g.S.Site c.call.new.site c.answer.new.site (λ r. StandsForNext g.D.Desk.server g.D.Desk.stands (is_operator d) c.call.new.slot.session (g.D.Desk.state c.args.desk.now) r.files)) c.in-More.ensures.keeps.door (c.in-Ok-Rests.ensures.any_moment (c.in-More.ensures.comes.talks.calls.as_told ∙ told)) in
     let so_far = more_left g.S.Site g.D.Desk.server g.D.Desk.stands first past since c.args.site.now is fronts g.met.D.Desk.http c.args.slot.now.channel c.args.slot.now.door c.args.slot.now.session follows c.call.new.slot.session c.call.new.site c.answer.new.site c.in-More.ensures.comes stood (g.D.Desk.state c.args.desk.now) state files c.in-Ok-Rests.ensures.log_stays in
     so_far
 
 pub returns-in-Err-clause-survives : goal.returns-in-Err-clause-survives
 returns-in-Err-clause-survives g c past since first is follows fronts state told =
     let stood : (r : Remains) → g.S.Site.may_leave c.args.site.now r → g.D.Desk.stands r.files (served_by g.D.Desk.server first since).state = λ r left. subst (λ (x : g.D.Desk.State). g.D.Desk.stands r.files x) state (g.met.D.Desk.rests_stands c.args.desk.now c.args.site.now told c.requires.rests r left) in
-    let files = subst (λ (d : Doorway). LeavesOnly g.S.Site c.call.new.site c.answer.new.site (λ r. StandsForNext g.D.Desk.server g.D.Desk.stands (is_operator d) c.call.new.slot.session (g.D.Desk.state c.args.desk.now) r.files)) c.in-More.ensures.door (c.in-Err.ensures.any_moment (c.in-More.ensures.comes.talks.calls.as_told ∙ told)) in
+    let files = subst (λ (d : Doorway). LeavesOnly g.S.Site c.call.new.site c.answer.new.site (λ r. StandsForNext g.D.Desk.server g.D.Desk.stands (is_operator d) c.call.new.slot.session (g.D.Desk.state c.args.desk.now) r.files)) c.in-More.ensures.keeps.door (c.in-Err.ensures.any_moment (c.in-More.ensures.comes.talks.calls.as_told ∙ told)) in
     let so_far = more_left g.S.Site g.D.Desk.server g.D.Desk.stands first past since c.args.site.now is fronts g.met.D.Desk.http c.args.slot.now.channel c.args.slot.now.door c.args.slot.now.session follows c.call.new.slot.session c.call.new.site c.answer.new.site c.in-More.ensures.comes stood (g.D.Desk.state c.args.desk.now) state files c.in-Err.ensures.log_stays in
     so_far
 
 pub returns-in-Ok-NoMemory-clause-survives : goal.returns-in-Ok-NoMemory-clause-survives
 returns-in-Ok-NoMemory-clause-survives g c past since first is follows fronts state told =
     let stood : (r : Remains) → g.S.Site.may_leave c.args.site.now r → g.D.Desk.stands r.files (served_by g.D.Desk.server first since).state = λ r left. subst (λ (x : g.D.Desk.State). g.D.Desk.stands r.files x) state (g.met.D.Desk.rests_stands c.args.desk.now c.args.site.now told c.requires.rests r left) in
-    let files = subst (λ (d : Doorway). LeavesOnly g.S.Site c.call.new.site c.answer.new.site (λ r. StandsForNext g.D.Desk.server g.D.Desk.stands (is_operator d) c.call.new.slot.session (g.D.Desk.state c.args.desk.now) r.files)) c.in-More.ensures.door (c.in-Ok-NoMemory.ensures.any_moment (c.in-More.ensures.comes.talks.calls.as_told ∙ told)) in
+    let files = subst (λ (d : Doorway). LeavesOnly g.S.Site c.call.new.site c.answer.new.site (λ r. StandsForNext g.D.Desk.server g.D.Desk.stands (is_operator d) c.call.new.slot.session (g.D.Desk.state c.args.desk.now) r.files)) c.in-More.ensures.keeps.door (c.in-Ok-NoMemory.ensures.any_moment (c.in-More.ensures.comes.talks.calls.as_told ∙ told)) in
     let so_far = more_left g.S.Site g.D.Desk.server g.D.Desk.stands first past since c.args.site.now is fronts g.met.D.Desk.http c.args.slot.now.channel c.args.slot.now.door c.args.slot.now.session follows c.call.new.slot.session c.call.new.site c.answer.new.site c.in-More.ensures.comes stood (g.D.Desk.state c.args.desk.now) state files c.in-Ok-NoMemory.ensures.log_stays in
-    let rests = g.met.D.Desk.rests_stays c.answer.new.desk c.answer.new.site c.give_up.new.site c.give_up.ensures.call.as_told c.give_up.ensures.files c.in-Ok-NoMemory.ensures.rests in
-    let end : (r : Remains) → g.S.Site.may_leave c.give_up.new.site r → g.D.Desk.stands r.files (g.D.Desk.state c.answer.new.desk) = λ r left. g.met.D.Desk.rests_stands c.answer.new.desk c.give_up.new.site (c.give_up.ensures.call.as_told ∙ (c.in-Ok-NoMemory.ensures.calls.as_told ∙ c.in-More.ensures.comes.talks.calls.as_told ∙ told)) rests r left in
+    let rests = g.met.D.Desk.rests_stays c.answer.new.desk c.answer.new.site c.give_up.new.site c.give_up.ensures.call.as_told c.give_up.ensures.files c.in-Ok-NoMemory.ensures.keeps.rests in
+    let end : (r : Remains) → g.S.Site.may_leave c.give_up.new.site r → g.D.Desk.stands r.files (g.D.Desk.state c.answer.new.desk) = λ r left. g.met.D.Desk.rests_stands c.answer.new.desk c.give_up.new.site (c.give_up.ensures.call.as_told ∙ (c.in-Ok-NoMemory.ensures.keeps.calls.as_told ∙ c.in-More.ensures.comes.talks.calls.as_told ∙ told)) rests r left in
     finish_left g.S.Site g.D.Desk.server g.D.Desk.stands first past since c.args.site.now is fronts g.D.Desk.moved g.D.Desk.same c.args.slot.now.channel c.args.slot.now.door false c.give_up.new.slot.session (g.D.Desk.state c.answer.new.desk) c.args.desk.now c.answer.new.desk c.answer.new.site c.give_up.new.site g.met.S.Site.logs_now
     (returns-in-Ok-NoMemory-clause-turn g c (past ++ since) (served_by g.D.Desk.server first since) is follows fronts state) so_far c.give_up.ensures.call end
 
 pub returns-in-Ok-Over-clause-survives : goal.returns-in-Ok-Over-clause-survives
 returns-in-Ok-Over-clause-survives g c past since first is follows fronts state told =
     let stood : (r : Remains) → g.S.Site.may_leave c.args.site.now r → g.D.Desk.stands r.files (served_by g.D.Desk.server first since).state = λ r left. subst (λ (x : g.D.Desk.State). g.D.Desk.stands r.files x) state (g.met.D.Desk.rests_stands c.args.desk.now c.args.site.now told c.requires.rests r left) in
-    let files = subst (λ (d : Doorway). LeavesOnly g.S.Site c.call.new.site c.answer.new.site (λ r. StandsForNext g.D.Desk.server g.D.Desk.stands (is_operator d) c.call.new.slot.session (g.D.Desk.state c.args.desk.now) r.files)) c.in-More.ensures.door (c.in-Ok-Over.ensures.any_moment (c.in-More.ensures.comes.talks.calls.as_told ∙ told)) in
+    let files = subst (λ (d : Doorway). LeavesOnly g.S.Site c.call.new.site c.answer.new.site (λ r. StandsForNext g.D.Desk.server g.D.Desk.stands (is_operator d) c.call.new.slot.session (g.D.Desk.state c.args.desk.now) r.files)) c.in-More.ensures.keeps.door (c.in-Ok-Over.ensures.any_moment (c.in-More.ensures.comes.talks.calls.as_told ∙ told)) in
     let so_far = more_left g.S.Site g.D.Desk.server g.D.Desk.stands first past since c.args.site.now is fronts g.met.D.Desk.http c.args.slot.now.channel c.args.slot.now.door c.args.slot.now.session follows c.call.new.slot.session c.call.new.site c.answer.new.site c.in-More.ensures.comes stood (g.D.Desk.state c.args.desk.now) state files c.in-Ok-Over.ensures.log_stays in
-    let rests = g.met.D.Desk.rests_stays c.answer.new.desk c.answer.new.site c.shut.new.self c.shut.ensures.call.as_told c.shut.ensures.files c.in-Ok-Over.ensures.rests in
-    let end : (r : Remains) → g.S.Site.may_leave c.shut.new.self r → g.D.Desk.stands r.files (g.D.Desk.state c.answer.new.desk) = λ r left. g.met.D.Desk.rests_stands c.answer.new.desk c.shut.new.self (c.shut.ensures.call.as_told ∙ (c.in-Ok-Over.ensures.calls.as_told ∙ c.in-More.ensures.comes.talks.calls.as_told ∙ told)) rests r left in
+    let rests = g.met.D.Desk.rests_stays c.answer.new.desk c.answer.new.site c.shut.new.self c.shut.ensures.call.as_told c.shut.ensures.files c.in-Ok-Over.ensures.keeps.rests in
+    let end : (r : Remains) → g.S.Site.may_leave c.shut.new.self r → g.D.Desk.stands r.files (g.D.Desk.state c.answer.new.desk) = λ r left. g.met.D.Desk.rests_stands c.answer.new.desk c.shut.new.self (c.shut.ensures.call.as_told ∙ (c.in-Ok-Over.ensures.keeps.calls.as_told ∙ c.in-More.ensures.comes.talks.calls.as_told ∙ told)) rests r left in
     finish_left g.S.Site g.D.Desk.server g.D.Desk.stands first past since c.args.site.now is fronts g.D.Desk.moved g.D.Desk.same c.args.slot.now.channel c.args.slot.now.door true c.answer.new.slot.session (g.D.Desk.state c.answer.new.desk) c.args.desk.now c.answer.new.desk c.answer.new.site c.shut.new.self g.met.S.Site.logs_now
     (returns-in-Ok-Over-clause-turn g c (past ++ since) (served_by g.D.Desk.server first since) is follows fronts state) so_far c.shut.ensures.call end
 

@@ -21,7 +21,7 @@ step_link-requires-clause-ready g c =
 pub step_link-requires-clause-goes_on : goal.step_link-requires-clause-goes_on
 step_link-requires-clause-goes_on g c x is =
     let seen = slot_seen _ _ c.self.view_is c.args.at c.index_mut.result.now c.in-Some.slot c.requires.held c.index_mut.ensures.value c.in-Some.is in
-    let some = c.requires.follows x is in
+    let some = c.requires.may.follows x is in
     subst (IsGoing c.in-Some.slot.channel c.in-Some.slot.session) (sym some.2) (going_of g.D.Desk.server g.met.D.Desk.http some.0 some.1 c.args.self.now.slots (g.D.Desk.state c.args.desk.now) some.3 c.args.at c.in-Some.slot seen.2)
 
 pub invariant_of-self : goal.invariant_of-self
@@ -49,18 +49,18 @@ pub returns-in-Ok-true : goal.returns-in-Ok-true
 returns-in-Ok-true g c =
     let seen = slot_seen _ _ c.self.view_is c.args.at c.index_mut.result.now c.in-Some.slot c.requires.held c.index_mut.ensures.value c.in-Some.is in
     record {
-      turn = λ start since slot is follows at_slot.
+      turn = λ start since is follows slot at_slot.
           let made = c.in-Ok-true.ensures.turn (start.log ++ since) (served_by g.D.Desk.server start.state since) is (follows.links c.args.at c.in-Some.slot seen.2) (fronts_since g.D.Desk.server g.met.D.Desk.http start since c.args.self.now.slots (g.D.Desk.state c.args.desk.now) follows) follows.state in
           let made = subst (λ (b : Bool). LinkTurns g.S.Site g.D.Desk.server g.D.Desk.moved g.D.Desk.same (served_by g.D.Desk.server start.state since) (start.log ++ since) c.in-Some.slot.channel c.in-Some.slot.door b c.args.site.now c.step_link.new.site c.step_link.new.slot.session (g.D.Desk.state c.step_link.new.desk) c.args.desk.now c.step_link.new.desk) c.in-Ok-true.field-0-test made in
           let whose : c.in-Some.slot ≡ slot = (let e : Some c.in-Some.slot ≡ Some slot = sym seen.2 ∙ at_slot in cc e) in
           subst (λ (s : Slot). TurnOf g.S.Site g.D.Desk.server g.D.Desk.moved g.D.Desk.same start since (link_of s.channel) c.put.new.slots.items c.args.site.now c.step_link.new.site (g.D.Desk.state c.step_link.new.desk) c.args.desk.now c.step_link.new.desk) whose
-          (slot_turned g.D.Desk.server g.met.D.Desk.http start since c.args.self.now.slots (g.D.Desk.state c.args.desk.now) follows g.S.Site g.D.Desk.moved g.D.Desk.same c.args.at c.in-Some.slot seen.2 true c.step_link.new.slot c.in-Ok-true.ensures.channel c.in-Ok-true.ensures.door c.put.new.slots.items
+          (slot_turned g.D.Desk.server g.met.D.Desk.http start since c.args.self.now.slots (g.D.Desk.state c.args.desk.now) follows g.S.Site g.D.Desk.moved g.D.Desk.same c.args.at c.in-Some.slot seen.2 true c.step_link.new.slot c.in-Ok-true.ensures.keeps.channel c.in-Ok-true.ensures.keeps.door c.put.new.slots.items
           (c.put.ensures.items ∙ set_again c.self.inside.slots.items c.args.at (Some c.step_link.new.slot) None ∙ ap (λ (p : Places). set p.slots c.args.at None) c.self.view_is) c.args.site.now c.step_link.new.site (g.D.Desk.state c.step_link.new.desk) c.args.desk.now c.step_link.new.desk made);
-      cut = λ start since slot is follows at_slot. tt;
+      cut = λ start since is follows slot at_slot. tt;
       promises = link_promises g.S.Site g.D.Desk c.args.self.now.slots c.args.site.now c.step_link.new.site (Ok (tt {0})) c.args.desk.now c.step_link.new.desk
           (slot_survives g.S.Site g.D.Desk c.args.self.now.slots c.args.site.now c.step_link.new.site g.met.D.Desk.http c.args.at c.in-Some.slot seen.2 c.args.desk.now c.in-Ok-true.ensures.survives)
-          c.in-Ok-true.ensures.untold c.in-Ok-true.ensures.rests c.in-Ok-true.ensures.asked tt c.in-Ok-true.ensures.failed
-          (stops_as _ ⊥ ⊥ _ ⊥ ⊥ _ _ (λ failed. absurd failed) (λ no. no) (λ no. no) c.in-Ok-true.ensures.counted) c.in-Ok-true.ensures.calls;
+          c.in-Ok-true.ensures.untold c.in-Ok-true.ensures.keeps.rests c.in-Ok-true.ensures.keeps.asked tt c.in-Ok-true.ensures.keeps.failed
+          (stops_as _ ⊥ ⊥ _ ⊥ ⊥ _ _ (λ failed. absurd failed) (λ no. no) (λ no. no) c.in-Ok-true.ensures.keeps.counted) c.in-Ok-true.ensures.keeps.calls;
       place = ap (λ (p : Places). p.place) c.self.view_is;
       fault = tt;
     }
@@ -69,18 +69,18 @@ pub returns-in-Ok-false : goal.returns-in-Ok-false
 returns-in-Ok-false g c =
     let seen = slot_seen _ _ c.self.view_is c.args.at c.index_mut.result.now c.in-Some.slot c.requires.held c.index_mut.ensures.value c.in-Some.is in
     record {
-      turn = λ start since slot is follows at_slot.
+      turn = λ start since is follows slot at_slot.
           let made = c.in-Ok-false.ensures.turn (start.log ++ since) (served_by g.D.Desk.server start.state since) is (follows.links c.args.at c.in-Some.slot seen.2) (fronts_since g.D.Desk.server g.met.D.Desk.http start since c.args.self.now.slots (g.D.Desk.state c.args.desk.now) follows) follows.state in
           let made = subst (λ (b : Bool). LinkTurns g.S.Site g.D.Desk.server g.D.Desk.moved g.D.Desk.same (served_by g.D.Desk.server start.state since) (start.log ++ since) c.in-Some.slot.channel c.in-Some.slot.door b c.args.site.now c.step_link.new.site c.step_link.new.slot.session (g.D.Desk.state c.step_link.new.desk) c.args.desk.now c.step_link.new.desk) c.in-Ok-false.field-0-test made in
           let whose : c.in-Some.slot ≡ slot = (let e : Some c.in-Some.slot ≡ Some slot = sym seen.2 ∙ at_slot in cc e) in
           subst (λ (s : Slot). TurnOf g.S.Site g.D.Desk.server g.D.Desk.moved g.D.Desk.same start since (link_of s.channel) (set c.self.inside.slots.items c.args.at (Some c.step_link.new.slot)) c.args.site.now c.step_link.new.site (g.D.Desk.state c.step_link.new.desk) c.args.desk.now c.step_link.new.desk) whose
-          (slot_turned g.D.Desk.server g.met.D.Desk.http start since c.args.self.now.slots (g.D.Desk.state c.args.desk.now) follows g.S.Site g.D.Desk.moved g.D.Desk.same c.args.at c.in-Some.slot seen.2 false c.step_link.new.slot c.in-Ok-false.ensures.channel c.in-Ok-false.ensures.door (set c.self.inside.slots.items c.args.at (Some c.step_link.new.slot))
+          (slot_turned g.D.Desk.server g.met.D.Desk.http start since c.args.self.now.slots (g.D.Desk.state c.args.desk.now) follows g.S.Site g.D.Desk.moved g.D.Desk.same c.args.at c.in-Some.slot seen.2 false c.step_link.new.slot c.in-Ok-false.ensures.keeps.channel c.in-Ok-false.ensures.keeps.door (set c.self.inside.slots.items c.args.at (Some c.step_link.new.slot))
           (ap (λ (p : Places). set p.slots c.args.at (Some c.step_link.new.slot)) c.self.view_is) c.args.site.now c.step_link.new.site (g.D.Desk.state c.step_link.new.desk) c.args.desk.now c.step_link.new.desk made);
-      cut = λ start since slot is follows at_slot. tt;
+      cut = λ start since is follows slot at_slot. tt;
       promises = link_promises g.S.Site g.D.Desk c.args.self.now.slots c.args.site.now c.step_link.new.site (Ok (tt {0})) c.args.desk.now c.step_link.new.desk
           (slot_survives g.S.Site g.D.Desk c.args.self.now.slots c.args.site.now c.step_link.new.site g.met.D.Desk.http c.args.at c.in-Some.slot seen.2 c.args.desk.now c.in-Ok-false.ensures.survives)
-          c.in-Ok-false.ensures.untold c.in-Ok-false.ensures.rests c.in-Ok-false.ensures.asked tt c.in-Ok-false.ensures.failed
-          (stops_as _ ⊥ ⊥ _ ⊥ ⊥ _ _ (λ failed. absurd failed) (λ no. no) (λ no. no) c.in-Ok-false.ensures.counted) c.in-Ok-false.ensures.calls;
+          c.in-Ok-false.ensures.untold c.in-Ok-false.ensures.keeps.rests c.in-Ok-false.ensures.keeps.asked tt c.in-Ok-false.ensures.keeps.failed
+          (stops_as _ ⊥ ⊥ _ ⊥ ⊥ _ _ (λ failed. absurd failed) (λ no. no) (λ no. no) c.in-Ok-false.ensures.keeps.counted) c.in-Ok-false.ensures.keeps.calls;
       place = ap (λ (p : Places). p.place) c.self.view_is;
       fault = tt;
     }
@@ -89,15 +89,15 @@ pub returns-in-Err : goal.returns-in-Err
 returns-in-Err g c =
     let seen = slot_seen _ _ c.self.view_is c.args.at c.index_mut.result.now c.in-Some.slot c.requires.held c.index_mut.ensures.value c.in-Some.is in
     record {
-      turn = λ start since slot is follows at_slot. tt;
-      cut = λ start since slot is follows at_slot.
+      turn = λ start since is follows slot at_slot. tt;
+      cut = λ start since is follows slot at_slot.
           let cut = c.in-Err.ensures.cut (start.log ++ since) (served_by g.D.Desk.server start.state since) is (follows.links c.args.at c.in-Some.slot seen.2) (fronts_since g.D.Desk.server g.met.D.Desk.http start since c.args.self.now.slots (g.D.Desk.state c.args.desk.now) follows) in
           let whose : c.in-Some.slot ≡ slot = (let e : Some c.in-Some.slot ≡ Some slot = sym seen.2 ∙ at_slot in cc e) in
           subst (λ (s : Slot). LinkCut g.D.Desk.server (served_by g.D.Desk.server start.state since) (start.log ++ since) s.channel (g.S.Site.log c.step_link.new.site)) whose cut;
       promises = link_promises g.S.Site g.D.Desk c.args.self.now.slots c.args.site.now c.step_link.new.site (Err DiskFault) c.args.desk.now c.step_link.new.desk
           (slot_survives g.S.Site g.D.Desk c.args.self.now.slots c.args.site.now c.step_link.new.site g.met.D.Desk.http c.args.at c.in-Some.slot seen.2 c.args.desk.now c.in-Err.ensures.survives)
-          c.in-Err.ensures.untold c.in-Err.ensures.rests c.in-Err.ensures.asked refl c.in-Err.ensures.failed
-          (stops_as _ ⊥ ⊥ _ ⊥ ⊥ _ _ (λ failed. refl) (λ no. no) (λ no. no) c.in-Err.ensures.counted) c.in-Err.ensures.calls;
+          c.in-Err.ensures.untold c.in-Err.ensures.keeps.rests c.in-Err.ensures.keeps.asked refl c.in-Err.ensures.keeps.failed
+          (stops_as _ ⊥ ⊥ _ ⊥ ⊥ _ _ (λ failed. refl) (λ no. no) (λ no. no) c.in-Err.ensures.keeps.counted) c.in-Err.ensures.keeps.calls;
       place = ap (λ (p : Places). p.place) c.self.view_is;
       fault = refl;
     }
