@@ -1,5 +1,5 @@
 -- Runs of any subcommands, one after the other.
-use Rattle.std.proofs.Common.{◌≡◌, ◌≢◌, ◌∙◌, List, [], ◌∷◌, take, Some, refl, sym, subst}
+use Rattle.std.proofs.Common.{◌≡◌, ◌≢◌, ◌∙◌, List, [], ◌∷◌, take, Some, refl, sym, subst, ap}
 use Rattle.std.specs.Prelude.{Result, Ok}
 use Rattle.ox_outside.specs.Event.{Event}
 use Rattle.ox_outside.specs.Files.{Files}
@@ -16,7 +16,10 @@ use Rattle.ox_files.specs.Runs.{first_lines}
 use Rattle.ox_files.specs.Stands.{Misfit, stands}
 use Rattle.ox_desk.specs.Servers.{server_of, server_on}
 use Rattle.ox_app.specs.Turns.{StandFor}
-use Rattle.ox_app.specs.AnyRuns.{AnyInTurn, AnyRun, Fed, IsServedInTurn, LastOfAny, LeadsOn, Served, Spared, SurvivesAny, SurvivesServed, left_by}
+use Rattle.ox_store.specs.Grow.{growing}
+use Rattle.ox_store.proofs.GrowingFiles.{growing_stands}
+use Rattle.ox_app.specs.AnyRuns.{AnyInTurn, AnyRun, Fed, Grown, IsGrownInTurn, IsServedInTurn, KeepsStack, LastOfAny, LeadsOn, Served, Spared, SurvivesAny, SurvivesServed, left_by}
+use Rattle.ox_app.specs.Grow.{GrowsFirst, LeavesGrowing}
 use Rattle.ox_app.specs.Serve.{LeavesServing, SurvivesLinks}
 use Rattle.ox_app.proofs.Serving.{links_of_machine}
 
@@ -48,6 +51,7 @@ leads_to machine files (Served run) is survives =
       };
       stood = left.survives.stands_for;
     }
+leads_to machine files (Grown left) is survives = record { next = machine; leads = refl; stood = survives (stack_of machine) is }
 leads_to machine files Spared is survives = record { next = machine; leads = refl; stood = is }
 
 pub last_of_any : (machine : Machine) (files : Files) (runs : List AnyRun) → stands files ≡ Ok (stack_of machine) → AnyInTurn files runs → LastOfAny machine files runs
@@ -80,3 +84,17 @@ module _ {S : Type 0} (means : Meanings S) where
       leaves_weaker means old new _ _ (λ r.
       grows_weaker (LeavesServing means.may_leave old server_on stack StandFor r.files) (λ events. events ≢ [] → SurvivesServed (means.seen old) (record { events = events; left = r.files })) (means.log old) (Some r.log)
       (λ events leaves. served_by_events stack old r.files events stood leaves))
+
+  -- ---- and so is what `grow` leaves
+
+  grown_by_events : (stack : Stack) (old : S) (files : Files) (events : List Event) → stands (means.seen old) ≡ Ok stack → LeavesGrowing means old stack files events → events ≢ []
+      → KeepsStack (means.seen old) files
+  grown_by_events stack old files [] stood leaves some = absurd (some refl)
+  grown_by_events stack old files (event ∷ events) stood leaves some = λ other stood_other.
+      leaves.0 ∙ ap Ok (same_stack_of (stands (means.seen old)) stack other stood stood_other)
+
+  pub grown_in_turn : (stack : Stack) (old new : S) → growing (means.seen old) ≡ Ok stack → GrowsFirst means stack old new → IsGrownInTurn means old new
+  grown_in_turn stack old new grows =
+      leaves_weaker means old new _ _ (λ r.
+      grows_weaker (LeavesGrowing means old stack r.files) (λ events. events ≢ [] → KeepsStack (means.seen old) r.files) (means.log old) (Some r.log)
+      (λ events leaves. grown_by_events stack old r.files events (growing_stands (means.seen old) stack grows) leaves))

@@ -9,6 +9,7 @@ use Rattle.ox_outside.proofs.Counts.{no_fault_yet, stops_at_none}
 use Rattle.ox_gated.specs.Tail.{Holds}
 use Rattle.ox_gated.specs.Writes.{OnlyWrites}
 use Rattle.ox_gated.proofs.Writing.{writes_looking}
+use Rattle.ox_gated.specs.declared.fault.Halt.TheVariants as halts
 use Rattle.ox_files.specs.Stands.{stands}
 use Rattle.ox_model.specs.Replies.{after_turn, index_on, reply_by}
 use Rattle.ox_model.specs.Stack.{Stack}
@@ -27,14 +28,14 @@ use Rattle.ox_app.proofs.AskedLines.{after_asked, answers_asked}
 use Rattle.ox_app.proofs.Stops.{part_stops, part_went}
 use Rattle.ox_app.specs.declared.carry.CarriedLine.{CarriedLine}
 use Rattle.ox_app.specs.declared.stop.Stop.{Stop}
-use Rattle.ox_app.specs.declared.stop.Stop.TheVariants.{DiskFault, Memory}
+use Rattle.ox_app.specs.declared.stop.Stop.TheVariants.{Halt}
 use Rattle.ox_app.proofs.CommandAnswers.{files_untouched}
 
 -- an end out of memory is none of the disk's
-pub memory_alone : {T : Type 0} (stop : Stop) → stop ≡ Memory → IsErrOf {T = T} (Err stop) DiskFault → ⊥
+pub memory_alone : {T : Type 0} (stop : Stop) → stop ≡ Halt halts.Memory → IsErrOf {T = T} (Err stop) (Halt halts.Disk) → ⊥
 memory_alone stop is e =
-    let same : stop ≡ DiskFault = cc e in
-    let other : Memory ≡ DiskFault = sym is ∙ same in
+    let same : stop ≡ Halt halts.Disk = cc e in
+    let other : Halt halts.Memory ≡ Halt halts.Disk = sym is ∙ same in
     cc other
 
 -- what `carry_out` promises of a line
@@ -44,9 +45,9 @@ pub record TakesLine {S : Type 0} (means : Meanings S) (store : StoreContents) (
   pub holds : IsTrue (means.told old) → IfOk result (λ carried. IfSome carried (λ c. Holds means c.store.tail new))
   pub stands_for : IsTrue (means.told old) → stands (means.seen old) ≡ Ok store.stack → IfOk result (λ carried. IfSome carried (λ c. stands (means.seen new) ≡ Ok c.store.stack))
   pub any_moment : IsTrue (means.told old) → stands (means.seen old) ≡ Ok store.stack → LeavesOnly means old new (λ r. StandsForEither store.stack (after_line store.stack line) r.files)
-  pub out_of_memory : IsErrOf result Memory → AddsNothing means.seen means.log means.may_leave old new
-  pub stops : IfErr result (λ stop. (stop ≡ DiskFault) ⊎ (stop ≡ Memory))
-  pub failed : IsErrOf result DiskFault → DiskFails means old new
+  pub out_of_memory : IsErrOf result (Halt halts.Memory) → AddsNothing means.seen means.log means.may_leave old new
+  pub stops : IfErr result (λ stop. (stop ≡ Halt halts.Disk) ⊎ (stop ≡ Halt halts.Memory))
+  pub failed : IsErrOf result (Halt halts.Disk) → DiskFails means old new
   pub counted : EndsAtStop result (means.counts old) (means.counts new)
   pub writes : OnlyWrites means old new
 
@@ -85,9 +86,9 @@ module _ {S : Type 0} (means : Meanings S) (store : StoreContents) (line : Line)
         holds = λ told. tt;
         stands_for = λ told stood. tt;
         any_moment = λ told stood. moments_asked old new (turn.any_moment told stood);
-        out_of_memory = λ e. turn.out_of_memory (let same : stop ≡ Memory = cc e in ap Err same);
+        out_of_memory = λ e. turn.out_of_memory (let same : stop ≡ Halt halts.Memory = cc e in ap Err same);
         stops = turn.stops;
-        failed = λ e. turn.failed (let same : stop ≡ DiskFault = cc e in ap Err same);
+        failed = λ e. turn.failed (let same : stop ≡ Halt halts.Disk = cc e in ap Err same);
         counted = part_stops (let r : Result (Option CarriedLine) Stop = Err stop in r) stop _ _ _ refl (no_fault_yet (means.counts old)) turn.counted;
         writes = turn.writes;
       } in
@@ -103,7 +104,7 @@ module _ {S : Type 0} (means : Meanings S) (only_now : (site : S) (r : Remains) 
 
   module _ (store : StoreContents) (holds : IsTrue (means.told site) → Holds means store.tail site) where
     -- there is no memory for it
-    pub turn_without_memory : (turn : Result Stack Refusal) → TakesTurn means store turn (Err Memory) site site
+    pub turn_without_memory : (turn : Result Stack Refusal) → TakesTurn means store turn (Err (Halt halts.Memory)) site site
     turn_without_memory turn = record {
       answer = tt;
       leads = tt;
@@ -113,14 +114,14 @@ module _ {S : Type 0} (means : Meanings S) (only_now : (site : S) (r : Remains) 
       any_moment = λ told stood. files_untouched means only_now site store.stack (after_turn store.stack turn) (holds told).settled stood;
       out_of_memory = λ is. adds_nothing;
       stops = inr refl;
-      failed = λ e. absurd (memory_alone Memory refl e);
+      failed = λ e. absurd (memory_alone (Halt halts.Memory) refl e);
       counted = stops_at_none _ _ _ _ _ (no_fault_yet (means.counts site));
       writes = writes_none;
     }
 
     -- it is refused
     pub turn_refused : (turn : Result Stack Refusal) (refusal : Refusal) (kept : StoreContents) (result : Result CarriedLine Stop) → turn ≡ Err refusal → kept ≡ store
-        → IfOk result (λ carried. carried.store ≡ kept) → IfOk result (λ carried. carried.answer ≡ refusal_line refusal) → IfErr result (λ stop. stop ≡ Memory)
+        → IfOk result (λ carried. carried.store ≡ kept) → IfOk result (λ carried. carried.answer ≡ refusal_line refusal) → IfErr result (λ stop. stop ≡ Halt halts.Memory)
         → TakesTurn means store turn result site site
     turn_refused turn refusal kept (Ok carried) refused same stays says none =
         let is : carried.store ≡ store = stays ∙ same in
@@ -142,9 +143,9 @@ module _ {S : Type 0} (means : Meanings S) (only_now : (site : S) (r : Remains) 
 
     -- a line whose answer finds no memory, and the end of a feed
     module _ (line : Line) where
-      pub line_without_memory : (result : Result (Option CarriedLine) Stop) → result ≡ Err Memory → TakesLine means store line result site site
+      pub line_without_memory : (result : Result (Option CarriedLine) Stop) → result ≡ Err (Halt halts.Memory) → TakesLine means store line result site site
       line_without_memory result is =
-          let stopped : TakesLine means store line (Err Memory) site site = record {
+          let stopped : TakesLine means store line (Err (Halt halts.Memory)) site site = record {
             carried = tt;
             one_more = tt;
             holds = λ told. tt;
@@ -152,7 +153,7 @@ module _ {S : Type 0} (means : Meanings S) (only_now : (site : S) (r : Remains) 
             any_moment = λ told stood. files_untouched means only_now site store.stack (after_line store.stack line) (holds told).settled stood;
             out_of_memory = λ e. adds_nothing;
             stops = inr refl;
-            failed = λ e. absurd (memory_alone Memory refl e);
+            failed = λ e. absurd (memory_alone (Halt halts.Memory) refl e);
             counted = stops_at_none _ _ _ _ _ (no_fault_yet (means.counts site));
             writes = writes_none;
           } in

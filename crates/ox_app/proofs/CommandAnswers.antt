@@ -8,6 +8,7 @@ use Rattle.ox_files.specs.Stands.{stands}
 use Rattle.ox_store.specs.Ready.{StandsForEither}
 use Rattle.ox_outside.proofs.Calls.{leaves_at_first}
 use Rattle.ox_gated.specs.Tail.{IsSettled}
+use Rattle.ox_gated.specs.declared.fault.Halt.TheVariants as halts
 use Rattle.ox_outside.specs.Runs.{LeavesOnly}
 use Rattle.ox_app.specs.declared.stop.Stop.{Stop}
 use Rattle.ox_app.specs.declared.stop.Stop.TheVariants as stops
@@ -20,13 +21,13 @@ module _ {S : Type 0} (means : Meanings S) where
       leaves_at_first means site (λ r. StandsForEither before after r.files) (λ r left. inl (ap stands (settled r (only_now site r left)) ∙ stood))
 
 -- where the disk alone stops a command, memory doesn't
-pub by_disk_alone : {T : Type 0} (result : Result T Stop) → IfErr result (λ stop. stop ≡ stops.DiskFault) → IfErr result (λ stop. (stop ≡ stops.DiskFault) ⊎ (stop ≡ stops.Memory))
+pub by_disk_alone : {T : Type 0} (result : Result T Stop) → IfErr result (λ stop. stop ≡ stops.Halt halts.Disk) → IfErr result (λ stop. (stop ≡ stops.Halt halts.Disk) ⊎ (stop ≡ stops.Halt halts.Memory))
 by_disk_alone (Ok x) none = none
 by_disk_alone (Err stop) is = inl is
 
-pub no_memory_by_disk : {T : Type 0} (result : Result T Stop) → IfErr result (λ stop. stop ≡ stops.DiskFault) → IsErrOf result stops.Memory → ⊥
+pub no_memory_by_disk : {T : Type 0} (result : Result T Stop) → IfErr result (λ stop. stop ≡ stops.Halt halts.Disk) → IsErrOf result (stops.Halt halts.Memory) → ⊥
 no_memory_by_disk (Ok x) none e = cc e
 no_memory_by_disk (Err stop) is e =
-    let same : stop ≡ stops.Memory = cc e in
-    let other : stops.DiskFault ≡ stops.Memory = sym is ∙ same in
+    let same : stop ≡ stops.Halt halts.Memory = cc e in
+    let other : stops.Halt halts.Disk ≡ stops.Halt halts.Memory = sym is ∙ same in
     cc other

@@ -11,6 +11,7 @@ use Rattle.ox_outside.proofs.Calls.{leaves_then, leaves_weaker}
 use Rattle.ox_outside.proofs.Log.{grows_none, grows_same, grows_weaker}
 use Rattle.ox_outside.proofs.OnlyTalks.{talks_none, talks_weaker}
 use Rattle.ox_gated.specs.Writes.{OnlyWrites}
+use Rattle.ox_gated.specs.declared.fault.Halt.TheVariants as halts
 use Rattle.ox_files.specs.Stands.{stands}
 use Rattle.ox_store.specs.Make.{no_files}
 use Rattle.ox_drill.specs.Drill.{DrillsInTurn, IsDrilled, drill_stack}
@@ -35,15 +36,15 @@ refused_untold (inr e) = cc e
 
 fault_untold : (fault : DrillFault) → IsTold (drill_status fault) → ⊥
 fault_untold drills.NotEmpty told = refused_untold told
-fault_untold drills.DiskFault (inl e) = cc e
-fault_untold drills.DiskFault (inr e) = cc e
-fault_untold drills.Memory (inl e) = cc e
-fault_untold drills.Memory (inr e) = cc e
+fault_untold (drills.Halt halts.Disk) (inl e) = cc e
+fault_untold (drills.Halt halts.Disk) (inr e) = cc e
+fault_untold (drills.Halt halts.Memory) (inl e) = cc e
+fault_untold (drills.Halt halts.Memory) (inr e) = cc e
 
 fault_spares : (fault : DrillFault) → IsSparing (drill_status fault)
 fault_spares drills.NotEmpty = inl refl
-fault_spares drills.DiskFault = inr (inl refl)
-fault_spares drills.Memory = inr (inr refl)
+fault_spares (drills.Halt halts.Disk) = inr (inl refl)
+fault_spares (drills.Halt halts.Memory) = inr (inr refl)
 
 -- ---- what a crash leaves
 

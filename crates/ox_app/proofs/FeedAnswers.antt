@@ -12,13 +12,14 @@ use Rattle.ox_outside.proofs.Log.{grows_none, grows_then}
 use Rattle.ox_feed.specs.Feed.{Answers, Feed, FeedLine, text, too_long, Hears, IsDone, IsTooMuch, Listens, MayCome, OnlyHears, feed_limit, is_hearing, lines_from, lines_of, new_feed}
 use Rattle.ox_feed.specs.declared.lines.Line.{Line}
 use Rattle.ox_feed.specs.declared.lines.Line.TheVariants.{Text, Long, End}
+use Rattle.ox_gated.specs.declared.fault.Halt.TheVariants as halts
 use Rattle.ox_files.specs.Moments.{lines_in}
 use Rattle.ox_model.specs.Replies.{after_on, after_turn, index_on, replies_on, reply_by}
 use Rattle.ox_model.specs.Stack.{Stack, turn_on}
 use Rattle.ox_model.proofs.AnswersOfStacks.{after_joined, after_none, after_one, replies_joined, replies_line, replies_none}
 use Rattle.ox_app.specs.declared.status.Status.TheVariants as ends
 use Rattle.ox_app.specs.declared.stop.Stop.{Stop}
-use Rattle.ox_app.specs.declared.stop.Stop.TheVariants.{DiskFault, HearFault, ShowFault, Memory, TooMuch}
+use Rattle.ox_app.specs.declared.stop.Stop.TheVariants.{Halt, HearFault, ShowFault, TooMuch}
 use Rattle.ox_app.specs.Fold.{AnswersNext, AnswersLine, NextLine}
 use Rattle.ox_app.proofs.Pieces.{Own}
 use Rattle.ox_app.proofs.FeedState.{HasAnswered, OwesAnswer}
@@ -143,8 +144,8 @@ module _ (first : Stack) where
   })
 
   -- since there is no memory for a chain
-  pub grows_unheard : (log : Option (List Event)) → Grows (RunsFeed (replies_on first) (status_of (Err Memory))) log log
-  grows_unheard log = grows_quiet (status_of (Err Memory)) (λ done. cc done) (λ much. cc much) log
+  pub grows_unheard : (log : Option (List Event)) → Grows (RunsFeed (replies_on first) (status_of (Err (Halt halts.Memory)))) log log
+  grows_unheard log = grows_quiet (status_of (Err (Halt halts.Memory))) (λ done. cc done) (λ much. cc much) log
 
   -- a line is heard and carried out, and its answer is owed
   pub owes_answer : (lines lines' : Feed) (stack stack' : Stack) (answer : List ℕ) (x y : List Event)
@@ -237,17 +238,17 @@ module _ (first : Stack) where
       ∙ ap (λ (l : List FeedLine). concat (replies_on first l)) (sym (lines_heard lines stack x y hears carried))
 
   not_done : (stop : Stop) → status_of (Err stop) ≡ ends.Done → ⊥
-  not_done DiskFault e = cc
+  not_done (Halt halts.Disk) e = cc
   not_done HearFault e = cc
   not_done ShowFault e = cc
-  not_done Memory e = cc
+  not_done (Halt halts.Memory) e = cc
   not_done TooMuch e = cc
 
   stops_for_limit : (stop : Stop) → status_of (Err stop) ≡ ends.TooMuch → stop ≡ TooMuch
-  stops_for_limit DiskFault e = cc
+  stops_for_limit (Halt halts.Disk) e = cc
   stops_for_limit HearFault e = cc
   stops_for_limit ShowFault e = cc
-  stops_for_limit Memory e = cc
+  stops_for_limit (Halt halts.Memory) e = cc
   stops_for_limit TooMuch e = refl
 
   done_within : ends.Done ≡ ends.TooMuch → ⊥

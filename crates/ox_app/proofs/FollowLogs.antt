@@ -1,5 +1,5 @@
 -- What a follower logs of a frame, where the log is told.
-use Rattle.std.proofs.Common.{◌≡◌, ◌⊎◌, inl, inr, List, Option, refl, sym, ap, subst}
+use Rattle.std.proofs.Common.{◌≡◌, inl, inr, List, Option, refl, sym, subst}
 use Rattle.ox_outside.specs.Event.{Event}
 use Rattle.ox_outside.specs.Log.{Grows}
 use Rattle.ox_outside.proofs.Log.{grows_then, grows_weaker}
@@ -9,13 +9,12 @@ use Rattle.ox_follow.specs.World.{Stood}
 use Rattle.ox_model.specs.Stack.{Stack}
 use Rattle.ox_outside.specs.Event.{shown_bytes}
 use Rattle.ox_pieces.specs.Frames.{Advances, GivesFrame}
-use Rattle.ox_pieces.specs.Stood.{rules_of}
-use Rattle.ox_app.specs.OneFrame.{EndsBy, EndsFrom, LeavesAt, ShowsFirst, TookFrame, judged_by, shown_follower}
+use Rattle.ox_app.specs.OneFrame.{EndsBy, EndsFrom, LeavesAt, TookFrame, judged_by, shown_follower}
 use Rattle.ox_app.specs.Show.{ShowsWhole}
 use Rattle.ox_app.specs.declared.status.Status.{Status}
 use Rattle.ox_app.specs.declared.status.Status.TheVariants as ends
 use Rattle.ox_app.proofs.FollowMoments.{Unanswered, answered, heard_unanswered, passed}
-use Rattle.ox_app.proofs.FrameTalks.{follows_end, follows_on}
+use Rattle.ox_app.proofs.FrameTalks.{follows_end}
 use Rattle.ox_app.proofs.Statuses.{ends_apart}
 use Rattle.ox_app.proofs.TalkFaults.{no_end_stops}
 use Rattle.ox_app.proofs.TalkLogs.{logs_ended, logs_stopped}

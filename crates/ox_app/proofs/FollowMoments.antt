@@ -1,6 +1,5 @@
 -- What a crash leaves at each moment of a run of a follower.
-use Rattle.std.proofs.Common.{◌≡◌, ◌∙◌, ◌⊎◌, inl, inr, ℕ, suc, zero, List, [], ◌∷◌, ◌++◌, take, Option, Some, refl, sym, ap, subst, append_assoc}
-use Rattle.std.specs.Prelude.{IsTrue}
+use Rattle.std.proofs.Common.{◌≡◌, ◌∙◌, inl, inr, ℕ, suc, zero, List, [], ◌∷◌, ◌++◌, Option, Some, refl, sym, ap, subst}
 use Rattle.std.proofs.lemmas.List.{append-nil}
 use Rattle.ox_outside.specs.Crash.{Remains}
 use Rattle.ox_outside.specs.Event.{Event, heard_bytes, shown_bytes}
@@ -17,10 +16,10 @@ use Rattle.ox_follow.specs.Talk.{followed}
 use Rattle.ox_follow.specs.World.{Stood}
 use Rattle.ox_gated.specs.Tail.{IsSettled}
 use Rattle.ox_model.specs.Stack.{Stack}
-use Rattle.ox_pieces.specs.Frames.{Advances, GivesFrame, Talk, behind_first, frames_in, frames_within, with_first}
+use Rattle.ox_pieces.specs.Frames.{Advances, GivesFrame, behind_first, frames_in, frames_within}
 use Rattle.ox_pieces.specs.Stood.{rules_of, stood_in}
 use Rattle.ox_app.specs.Follow.{LeavesFollowing, SurvivesFrames, led_to}
-use Rattle.ox_app.specs.OneFrame.{DuringFrame, IsBehindFrame, LeavesAt, StandAtEither, TookFrame, judged_by}
+use Rattle.ox_app.specs.OneFrame.{DuringFrame, LeavesAt, StandAtEither, TookFrame, judged_by}
 use Rattle.ox_app.specs.Show.{ShowsFront, ShowsWhole}
 use Rattle.ox_app.proofs.Crashes.{both}
 use Rattle.ox_app.proofs.FeedAnswers.{hearings_show_nothing}

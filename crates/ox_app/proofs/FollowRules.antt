@@ -1,5 +1,5 @@
 -- A frame changes no rules, whatever it leaves a follower.
-use Rattle.std.proofs.Common.{◌≡◌, ◌∙◌, ap, refl, subst, sym}
+use Rattle.std.proofs.Common.{◌≡◌, ◌∙◌, ap, refl}
 use Rattle.ox_follow.specs.Frame.{Frame}
 use Rattle.ox_follow.specs.Talk.{Ends, Judged, Stays, Takes}
 use Rattle.ox_follow.specs.World.{Stood}

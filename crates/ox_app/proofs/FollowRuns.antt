@@ -1,17 +1,16 @@
 -- Runs of followers one after the other keep to their leader.
-use Rattle.std.proofs.Common.{◌≡◌, ◌∙◌, ◌⊎◌, inl, inr, ℕ, zero, suc, List, [], ◌∷◌, ◌++◌, take, Option, Some, None, refl, sym, ap, subst}
+use Rattle.std.proofs.Common.{◌≡◌, ◌∙◌, inl, inr, ℕ, List, [], ◌∷◌, take, Option, Some, None, refl, sym, ap, subst}
 use Rattle.std.specs.Prelude.{All}
 use Rattle.std.proofs.lemmas.List.Elements.{All-head, All-tail, All-take}
 use Rattle.ox_outside.specs.Files.{Files}
-use Rattle.ox_files.specs.Runs.{Run, last_left}
+use Rattle.ox_files.specs.Runs.{Run}
 use Rattle.ox_follow.proofs.Following.{takes_judged, takes_of_sent}
-use Rattle.ox_follow.specs.Frame.{Frame, Base, Step, Have, Level}
-use Rattle.ox_follow.specs.Talk.{Ends, Followed, Judged, Stays, Takes, followed, judged, stands_by}
-use Rattle.ox_follow.specs.World.{Event, Appends, Turns, Sends, Delivers, Reopens, IsIn, Rules, Stood, World, after, answer_to, appends, begun, commits, delivers, frame_numbered, happened, sends, stood, took, turns}
+use Rattle.ox_follow.specs.Frame.{Frame}
+use Rattle.ox_follow.specs.Talk.{Ends, Judged, Stays, Takes, followed, judged, stands_by}
+use Rattle.ox_follow.specs.World.{Event, Appends, Turns, Sends, Delivers, Reopens, IsIn, Rules, Stood, World, after, answer_to, appends, begun, delivers, frame_numbered, happened, sends, stood, took, turns}
 use Rattle.ox_model.specs.Stack.{Stack}
 use Rattle.ox_app.specs.Follow.{FollowInTurn, HearsSent, StandsWithLeader, SurvivesFrames, frames_heard, led_to}
 use Rattle.ox_pieces.specs.Stood.{rules_of, stood_in}
-use Rattle.ox_app.specs.Talks.{followed_by}
 use Rattle.ox_pieces.proofs.HeadsOfPieces.{body_rules, payload_rules}
 use Rattle.ox_app.proofs.FrameTalks.{followed_how}
 

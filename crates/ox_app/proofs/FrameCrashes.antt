@@ -1,11 +1,11 @@
 -- What survives a crash during a run of a follower, on plain logs.
-use Rattle.std.proofs.Common.{◌≡◌, ◌∙◌, ◌⊎◌, inl, inr, ℕ, suc, ◌<◌, ◌≤◌, Bool, List, [], ◌∷◌, ◌++◌, length, map, take, Option, Some, None, refl, sym, ap, subst, arith, append_assoc, length-append}
-use Rattle.std.specs.Prelude.{All, IsTrue}
+use Rattle.std.proofs.Common.{◌≡◌, ◌∙◌, inl, inr, ℕ, suc, ◌≤◌, List, [], ◌∷◌, ◌++◌, length, take, Some, refl, sym, ap, subst, arith, append_assoc, length-append}
+use Rattle.std.specs.Prelude.{All}
 use Rattle.std.specs.List.{concat}
 use Rattle.std.proofs.lemmas.List.{append-nil, map-append, take-append-le}
-use Rattle.std.proofs.lemmas.List.Elements.{All-append, All-cons, All-head, All-nil, All-tail, All-take, All-weaker}
+use Rattle.std.proofs.lemmas.List.Elements.{All-append, All-cons, All-nil, All-take, All-weaker}
 use Rattle.std.proofs.Math.Seq.{take-append_seam}
-use Rattle.ox_outside.specs.Event.{Event, has_ended, heard_bytes, shown_bytes}
+use Rattle.ox_outside.specs.Event.{Event, heard_bytes, shown_bytes}
 use Rattle.ox_outside.specs.Files.{Files}
 use Rattle.ox_outside.specs.Shown.{IsFrontOf, acknowledgements}
 use Rattle.ox_outside.proofs.Event.{heard_bytes-append, shown_bytes-append}
@@ -13,15 +13,15 @@ use Rattle.ox_feed.specs.Feed.{Feed, Listens, new_feed}
 use Rattle.ox_files.proofs.CountedMoments.{HasByte, acknowledged_ahead, acknowledged_at_rest}
 use Rattle.ox_follow.specs.Frame.{Frame, Have, spelled}
 use Rattle.ox_follow.specs.Position.{AtMost, Below}
-use Rattle.ox_follow.specs.Talk.{EndedEarly, End, Followed, Judged, Stays, Takes, Ends, end_by, followed, stands_by}
-use Rattle.ox_follow.specs.World.{Delivers, Event as Happening, Leader, Rules, Stood, World, delivers, frame_numbered, happened, made, took}
+use Rattle.ox_follow.specs.Talk.{EndedEarly, Followed, Judged, Stays, Takes, Ends, end_by, followed, stands_by}
+use Rattle.ox_follow.specs.World.{Delivers, Stood, World, frame_numbered, made}
 use Rattle.ox_follow.specs.declared.frame.Position.{Position}
 use Rattle.ox_follow.proofs.Following.{never_falls, takes_judged}
 use Rattle.ox_model.specs.Stack.{Stack}
-use Rattle.ox_pieces.specs.Frames.{Talk, frames_in, with_first}
+use Rattle.ox_pieces.specs.Frames.{Talk, frames_in}
 use Rattle.ox_pieces.specs.Stood.{rules_of, stood_in}
 use Rattle.ox_app.specs.Follow.{SurvivesFrames, frames_heard, haves_seen, led_to, seen_of}
-use Rattle.ox_app.specs.OneFrame.{Counts, GoesOn, IsBehindFrame, LeavesAt, TookFrame, judged_by, shown_follower}
+use Rattle.ox_app.specs.OneFrame.{GoesOn, LeavesAt, TookFrame, judged_by, shown_follower}
 use Rattle.ox_app.specs.Show.{HearsNothing, ShowsFront, ShowsWhole}
 use Rattle.ox_app.specs.Talks.{followed_by, follower_party, have_texts, haves_of}
 use Rattle.ox_app.proofs.FeedAnswers.{concat_joined, hearings_show_nothing}

@@ -1,11 +1,10 @@
 -- What a leader or a follower makes of what stands in front of its reader.
-use Rattle.std.proofs.Common.{◌≡◌, ◌∙◌, ◌⊎◌, inl, inr, Option, Some, None, Ok, Err, refl, sym, ap, subst}
+use Rattle.std.proofs.Common.{◌≡◌, inl, inr, Option, Some, None, Err, refl, sym, ap}
 use Rattle.std.specs.Prelude.{IfSome}
 use Rattle.std.specs.Option.{ok_or, option_map}
 use Rattle.ox_feed.specs.Feed.{Feed}
-use Rattle.ox_follow.specs.Frame.{FitsFrame, Frame, Have, plain}
+use Rattle.ox_follow.specs.Frame.{FitsFrame, Have, plain}
 use Rattle.ox_follow.specs.World.{Leader, Stood, answer_to}
-use Rattle.ox_follow.specs.Talk as talks
 use Rattle.ox_follow.specs.declared.frame.Frame.{Frame as FrameValue}
 use Rattle.ox_follow.specs.declared.frame.Frame.TheVariants as values
 use Rattle.ox_follow.specs.declared.frame.Position.{Position}

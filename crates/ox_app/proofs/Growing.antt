@@ -23,8 +23,7 @@ use Rattle.ox_gated.specs.declared.head.Head.{Head}
 use Rattle.ox_model.specs.Stack.{Stack}
 use Rattle.ox_files.specs.Stands.{Misfit, in_file, place_of_cut, stack_in, stack_in_file, stands}
 use Rattle.ox_store.specs.Grow.{HasGrown, StandsAsGrown, growing}
-use Rattle.ox_store.specs.declared.fault.GrowFault.{GrowFault}
-use Rattle.ox_store.specs.declared.fault.GrowFault.TheVariants as grows
+use Rattle.ox_store.specs.declared.fault.OpenFault.{OpenFault}
 use Rattle.ox_store.specs.declared.fault.OpenFault.TheVariants as opens
 use Rattle.ox_app.specs.Grow.{HasGrownFiles, LeavesGrowing, SaysNoGrowing}
 use Rattle.ox_app.specs.Show.{EndsAtFault, ShowsFront}
@@ -139,23 +138,23 @@ unopened_grow status (inr (inr is)) = inr (inr (inr (inr is)))
 
 -- ---- counts
 
-pub grown_well : {T : Type 0} (x : T) (old new : Counts) → StopsAtFault (IsErrOf {T = T} {E = GrowFault} (Ok x) (grows.Halt halts.Disk)) ⊥ ⊥ old new → NoFault old new
-grown_well {T} x old new stopped = went_on (IsErrOf {T = T} {E = GrowFault} (Ok x) (grows.Halt halts.Disk)) ⊥ ⊥ old new (λ is. cc is) (λ no. no) (λ no. no) stopped
+pub grown_well : {T : Type 0} (x : T) (old new : Counts) → StopsAtFault (IsErrOf {T = T} {E = OpenFault} (Ok x) (opens.Halt halts.Disk)) ⊥ ⊥ old new → NoFault old new
+grown_well {T} x old new stopped = went_on (IsErrOf {T = T} {E = OpenFault} (Ok x) (opens.Halt halts.Disk)) ⊥ ⊥ old new (λ is. cc is) (λ no. no) (λ no. no) stopped
 
-pub not_disk_grown : {T : Type 0} (fault : GrowFault) (old new : Counts) → (fault ≡ grows.Halt halts.Disk → ⊥) → StopsAtFault (IsErrOf {T = T} (Err fault) (grows.Halt halts.Disk)) ⊥ ⊥ old new → NoFault old new
+pub not_disk_grown : {T : Type 0} (fault : OpenFault) (old new : Counts) → (fault ≡ opens.Halt halts.Disk → ⊥) → StopsAtFault (IsErrOf {T = T} (Err fault) (opens.Halt halts.Disk)) ⊥ ⊥ old new → NoFault old new
 not_disk_grown {T} fault old new isnt stopped =
-    went_on (IsErrOf {T = T} (Err fault) (grows.Halt halts.Disk)) ⊥ ⊥ old new (λ is. let e : fault ≡ grows.Halt halts.Disk = cc is in isnt e) (λ no. no) (λ no. no) stopped
+    went_on (IsErrOf {T = T} (Err fault) (opens.Halt halts.Disk)) ⊥ ⊥ old new (λ is. let e : fault ≡ opens.Halt halts.Disk = cc is in isnt e) (λ no. no) (λ no. no) stopped
 
 -- a fault that isn't the disk's
-pub misfit_isnt_disk : (fault : GrowFault) (file : Which) (at : ℕ) → fault ≡ grows.NotStore file at → fault ≡ grows.Halt halts.Disk → ⊥
-misfit_isnt_disk fault file at is disk = let e : grows.NotStore file at ≡ grows.Halt halts.Disk = sym is ∙ disk in cc e
+pub misfit_isnt_disk : (fault : OpenFault) (file : Which) (at : ℕ) → fault ≡ opens.NotStore file at → fault ≡ opens.Halt halts.Disk → ⊥
+misfit_isnt_disk fault file at is disk = let e : opens.NotStore file at ≡ opens.Halt halts.Disk = sym is ∙ disk in cc e
 
-pub memory_isnt_disk : (fault : GrowFault) → fault ≡ grows.Halt halts.Memory → fault ≡ grows.Halt halts.Disk → ⊥
-memory_isnt_disk fault is disk = let e : grows.Halt halts.Memory ≡ grows.Halt halts.Disk = sym is ∙ disk in cc e
+pub memory_isnt_disk : (fault : OpenFault) → fault ≡ opens.Halt halts.Memory → fault ≡ opens.Halt halts.Disk → ⊥
+memory_isnt_disk fault is disk = let e : opens.Halt halts.Memory ≡ opens.Halt halts.Disk = sym is ∙ disk in cc e
 
-pub disk_stops_growing : {T : Type 0} (fault : GrowFault) (old new : Counts) → StopsAtFault (IsErrOf {T = T} (Err fault) (grows.Halt halts.Disk)) ⊥ ⊥ old new → EndsAtFault ends.DiskFault old new
+pub disk_stops_growing : {T : Type 0} (fault : OpenFault) (old new : Counts) → StopsAtFault (IsErrOf {T = T} (Err fault) (opens.Halt halts.Disk)) ⊥ ⊥ old new → EndsAtFault ends.DiskFault old new
 disk_stops_growing {T} fault old new stopped =
-    stops_as (IsErrOf {T = T} (Err fault) (grows.Halt halts.Disk)) ⊥ ⊥ (ends.DiskFault ≡ ends.DiskFault) (ends.DiskFault ≡ ends.HearFault) ((ends.DiskFault ≡ ends.ShowFault) ⊎ IsRefusal ends.DiskFault) old new
+    stops_as (IsErrOf {T = T} (Err fault) (opens.Halt halts.Disk)) ⊥ ⊥ (ends.DiskFault ≡ ends.DiskFault) (ends.DiskFault ≡ ends.HearFault) ((ends.DiskFault ≡ ends.ShowFault) ⊎ IsRefusal ends.DiskFault) old new
     (λ is. refl) (λ no. absurd no) (λ no. absurd no) stopped
 
 -- ---- lines

@@ -24,6 +24,7 @@ use Rattle.ox_app.proofs.Prefixes.{stops_none}
 use Rattle.ox_app.specs.Headline.{Leaves, StopsBefore, Survives}
 use Rattle.ox_app.specs.Init.{MadeBefore}
 use Rattle.ox_gated.specs.Tail.{IsSettled}
+use Rattle.ox_gated.specs.declared.fault.Halt.TheVariants as halts
 use Rattle.ox_outside.specs.Runs.{LeavesOnly, OnlyLooks, OnlyTalks}
 use Rattle.ox_app.specs.Show.{ShowsFront, ShowsReply, ShowsText, ShowsWhole}
 use Rattle.ox_app.specs.Status.{status_of}
@@ -69,12 +70,12 @@ only_told status (inr a) = record {
 }
 
 -- a feed that ends out of memory
-pub stopped_by_memory : (result : Result (Unit {0}) Stop) → status_of result ≡ Memory → IsErrOf result stops.Memory
+pub stopped_by_memory : (result : Result (Unit {0}) Stop) → status_of result ≡ Memory → IsErrOf result (stops.Halt halts.Memory)
 stopped_by_memory (Ok done) e = cc
-stopped_by_memory (Err stops.DiskFault) e = cc
+stopped_by_memory (Err (stops.Halt halts.Disk)) e = cc
 stopped_by_memory (Err stops.HearFault) e = cc
 stopped_by_memory (Err stops.ShowFault) e = cc
-stopped_by_memory (Err stops.Memory) e = refl
+stopped_by_memory (Err (stops.Halt halts.Memory)) e = refl
 stopped_by_memory (Err stops.TooMuch) e = cc
 
 -- ---- replies
@@ -153,15 +154,15 @@ module _ {S : Type 0} (means : Meanings S) where
 -- files that stand for a stack are no misfit, so nothing is said of them
 pub no_misfit : (standing : Result Stack Misfit) (stack : Stack) (fault : OpenFault) (events : List Event) → standing ≡ Ok stack → IsMisfit standing fault → LogsUnopened fault events → events ≡ []
 no_misfit standing stack (opens.NotStore file at) events is misfit logs = cc (sym is ∙ misfit)
-no_misfit standing stack opens.DiskFault events is misfit logs = logs
-no_misfit standing stack opens.Memory events is misfit logs = logs
+no_misfit standing stack (opens.Halt halts.Disk) events is misfit logs = logs
+no_misfit standing stack (opens.Halt halts.Memory) events is misfit logs = logs
 
 -- where no line is shown, nothing is logged
 pub says_nothing : {S : Type 0} (means : Meanings S) (fault : OpenFault) (status : Status) (old new : S) → UnopenedAs means fault status old new → (status ≡ NotStore → ⊥) → means.log new ≡ means.log old
 says_nothing means (opens.NotStore file at) status old new (inl said) isnt = absurd (isnt said.0)
 says_nothing means (opens.NotStore file at) status old new (inr quiet) isnt = quiet.1
-says_nothing means opens.DiskFault status old new quiet isnt = quiet.1
-says_nothing means opens.Memory status old new quiet isnt = quiet.1
+says_nothing means (opens.Halt halts.Disk) status old new quiet isnt = quiet.1
+says_nothing means (opens.Halt halts.Memory) status old new quiet isnt = quiet.1
 
 lines_none : lines_in [] ≡ []
 unfolding lines_of

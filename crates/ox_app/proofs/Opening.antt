@@ -5,6 +5,7 @@ use Rattle.ox_outside.specs.Counts.{Rose}
 use Rattle.ox_outside.specs.Runs.{Calls, OnlyLooks}
 use Rattle.ox_outside.specs.declared.site.Site.{Ghosts as Meanings}
 use Rattle.ox_outside.proofs.Counts.{rose_then, then_rose}
+use Rattle.ox_gated.specs.declared.fault.Halt.TheVariants as halts
 use Rattle.ox_model.specs.Stack.{Stack}
 use Rattle.ox_files.specs.Stands.{Misfit, stands}
 use Rattle.ox_store.specs.Fault.{IsMisfit}
@@ -73,14 +74,14 @@ pub record EndsRun (result : Result (Unit {0}) Stop) : Type 0 where
   pub opened : status_of result ≡ ends.NotStore → ⊥
   pub hear : status_of result ≡ ends.HearFault → IsErrOf result stops.HearFault
   pub show : status_of result ≡ ends.ShowFault → IsErrOf result stops.ShowFault
-  pub disk : status_of result ≡ ends.DiskFault → IsErrOf result stops.DiskFault
+  pub disk : status_of result ≡ ends.DiskFault → IsErrOf result (stops.Halt halts.Disk)
 
 pub ends_run : (result : Result (Unit {0}) Stop) → EndsRun result
 ends_run (Ok done) = record { status = inl refl; opened = λ e. cc e; hear = λ e. absurd (cc e); show = λ e. absurd (cc e); disk = λ e. absurd (cc e) }
-ends_run (Err stops.DiskFault) = record { status = inr (inr (inl refl)); opened = λ e. cc e; hear = λ e. absurd (cc e); show = λ e. absurd (cc e); disk = λ e. refl }
+ends_run (Err (stops.Halt halts.Disk)) = record { status = inr (inr (inl refl)); opened = λ e. cc e; hear = λ e. absurd (cc e); show = λ e. absurd (cc e); disk = λ e. refl }
 ends_run (Err stops.HearFault) = record { status = inr (inr (inr (inl refl))); opened = λ e. cc e; hear = λ e. refl; show = λ e. absurd (cc e); disk = λ e. absurd (cc e) }
 ends_run (Err stops.ShowFault) = record { status = inr (inr (inr (inr (inl refl)))); opened = λ e. cc e; hear = λ e. absurd (cc e); show = λ e. refl; disk = λ e. absurd (cc e) }
-ends_run (Err stops.Memory) = record { status = inr (inr (inr (inr (inr (inl refl))))); opened = λ e. cc e; hear = λ e. absurd (cc e); show = λ e. absurd (cc e); disk = λ e. absurd (cc e) }
+ends_run (Err (stops.Halt halts.Memory)) = record { status = inr (inr (inr (inr (inr (inl refl))))); opened = λ e. cc e; hear = λ e. absurd (cc e); show = λ e. absurd (cc e); disk = λ e. absurd (cc e) }
 ends_run (Err stops.TooMuch) = record { status = inr (inr (inr (inr (inr (inr refl))))); opened = λ e. cc e; hear = λ e. absurd (cc e); show = λ e. absurd (cc e); disk = λ e. absurd (cc e) }
 
 module _ {S : Type 0} (means : Meanings S) where
@@ -102,26 +103,26 @@ module _ {S : Type 0} (means : Meanings S) where
     says = says_after _ old mid new looks.calls looks.nothing.as_logged said.1;
   }
   unopened_says (opens.NotStore file at) status old mid new looks fails (inr quiet) is = absurd (differs status ends.Memory ends.NotStore memory_opens quiet.0 is)
-  unopened_says opens.DiskFault status old mid new looks fails quiet is = absurd (differs status ends.DiskFault ends.NotStore disk_opens quiet.0 is)
-  unopened_says opens.Memory status old mid new looks fails quiet is = absurd (differs status ends.Memory ends.NotStore memory_opens quiet.0 is)
+  unopened_says (opens.Halt halts.Disk) status old mid new looks fails quiet is = absurd (differs status ends.DiskFault ends.NotStore disk_opens quiet.0 is)
+  unopened_says (opens.Halt halts.Memory) status old mid new looks fails quiet is = absurd (differs status ends.Memory ends.NotStore memory_opens quiet.0 is)
 
   -- the disk failed while they were opened
   pub unopened_disk : {T : Type 0} (fault : OpenFault) (status : Status) (old mid new : S) → Calls means mid new
-      → (IsErrOf {T = T} (Err fault) opens.DiskFault → Rose (means.counts old).disk (means.counts mid).disk) → UnopenedAs means fault status mid new → status ≡ ends.DiskFault → DiskFails means old new
+      → (IsErrOf {T = T} (Err fault) (opens.Halt halts.Disk) → Rose (means.counts old).disk (means.counts mid).disk) → UnopenedAs means fault status mid new → status ≡ ends.DiskFault → DiskFails means old new
   unopened_disk (opens.NotStore file at) status old mid new calls failed (inl said) is = absurd (let e : ends.NotStore ≡ ends.DiskFault = sym said.0 ∙ is in cc e)
   unopened_disk (opens.NotStore file at) status old mid new calls failed (inr quiet) is = absurd (let e : ends.Memory ≡ ends.DiskFault = sym quiet.0 ∙ is in cc e)
-  unopened_disk opens.DiskFault status old mid new calls failed quiet is = rose_then _ _ _ (failed refl) calls.none_fell.disk
-  unopened_disk opens.Memory status old mid new calls failed quiet is = absurd (let e : ends.Memory ≡ ends.DiskFault = sym quiet.0 ∙ is in cc e)
+  unopened_disk (opens.Halt halts.Disk) status old mid new calls failed quiet is = rose_then _ _ _ (failed refl) calls.none_fell.disk
+  unopened_disk (opens.Halt halts.Memory) status old mid new calls failed quiet is = absurd (let e : ends.Memory ≡ ends.DiskFault = sym quiet.0 ∙ is in cc e)
 
   -- nothing is shown of files that stand for a stack and weren't opened
   pub unopened_shows : (bytes : List ℕ) (stack : Stack) (fault : OpenFault) (status : Status) (old mid new : S) → stands (means.seen old) ≡ Ok stack → IsMisfit (stands (means.seen old)) fault
       → OnlyLooks means old mid → UnopenedAs means fault status mid new → (status ≡ ends.NotStore → ⊥) × ShowsText means bytes status old new
   unopened_shows bytes stack (opens.NotStore file at) status old mid new stood misfit looks says = no_misfit_stands (stands (means.seen old)) stack _ stood misfit
-  unopened_shows bytes stack opens.DiskFault status old mid new stood misfit looks says = (
+  unopened_shows bytes stack (opens.Halt halts.Disk) status old mid new stood misfit looks says = (
     differs status ends.DiskFault ends.NotStore disk_opens says.0,
     reply_none bytes status (means.log old) (means.log new) (differs status ends.DiskFault ends.Done disk_undone says.0) (says.1 ∙ looks.nothing.as_logged),
   )
-  unopened_shows bytes stack opens.Memory status old mid new stood misfit looks says = (
+  unopened_shows bytes stack (opens.Halt halts.Memory) status old mid new stood misfit looks says = (
     differs status ends.Memory ends.NotStore memory_opens says.0,
     reply_none bytes status (means.log old) (means.log new) (differs status ends.Memory ends.Done memory_undone says.0) (says.1 ∙ looks.nothing.as_logged),
   )

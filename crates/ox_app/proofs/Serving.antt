@@ -14,6 +14,7 @@ use Rattle.ox_outside.specs.declared.site.Site.{Ghosts as Meanings}
 use Rattle.ox_outside.proofs.Calls.{leaves_at_first, leaves_then, leaves_weaker}
 use Rattle.ox_outside.proofs.Counts.{stops_after, stops_as, went_on}
 use Rattle.ox_outside.proofs.Log.{grows_none, grows_same, grows_then, grows_weaker}
+use Rattle.ox_gated.specs.declared.fault.Halt.TheVariants as halts
 use Rattle.ox_links.specs.Serving.{Server, state_after}
 use Rattle.ox_links.specs.Survives.{Survives}
 use Rattle.ox_links.specs.Turned.{CutShort, IsFewer, RoseBy}
@@ -312,12 +313,12 @@ unserved_as means standing stack (opens.NotStore file at) status old new stood m
   where
     none : (let a : Result Stack Misfit = Ok stack in a) ≡ (let b : Result Stack Misfit = Err (record { file = file; at = at }) in b) → ⊥
     none e = cc e
-unserved_as means standing stack opens.DiskFault status old new stood misfit says = record {
+unserved_as means standing stack (opens.Halt halts.Disk) status old new stood misfit says = record {
   opened = λ e. let f : ends.DiskFault ≡ ends.NotStore = sym says.0 ∙ e in cc f;
   untold = λ told. disk_untold (⊎_elim (λ e. inl (sym says.0 ∙ e)) (λ e. inr (sym says.0 ∙ e)) told);
   logged = says.1;
 }
-unserved_as means standing stack opens.Memory status old new stood misfit says = record {
+unserved_as means standing stack (opens.Halt halts.Memory) status old new stood misfit says = record {
   opened = λ e. let f : ends.Memory ≡ ends.NotStore = sym says.0 ∙ e in cc f;
   untold = λ told. memory_untold (⊎_elim (λ e. inl (sym says.0 ∙ e)) (λ e. inr (sym says.0 ∙ e)) told);
   logged = says.1;

@@ -1,5 +1,5 @@
 -- Bytes that are shown in two parts.
-use Rattle.std.proofs.Common.{◌≡◌, ◌∙◌, ℕ, List, [], ◌∷◌, ◌++◌, Option, refl, sym, ap, append_assoc, subst}
+use Rattle.std.proofs.Common.{◌≡◌, ◌∙◌, ℕ, List, ◌++◌, Option, sym, ap, append_assoc, subst}
 use Rattle.std.specs.Prelude.{Result, Ok, Err}
 use Rattle.ox_outside.specs.Event.{Event, shown_bytes}
 use Rattle.ox_outside.specs.declared.site.Failed.{Failed}

@@ -1,5 +1,5 @@
 -- What a crash leaves while a follower takes a frame.
-use Rattle.std.proofs.Common.{◌≡◌, ◌∙◌, ◌⊎◌, inl, inr, Some, refl, sym, ap}
+use Rattle.std.proofs.Common.{◌≡◌, ◌∙◌, inl, inr, Some, refl, ap}
 use Rattle.ox_outside.specs.Crash.{Remains}
 use Rattle.ox_outside.specs.Files.{Files}
 use Rattle.ox_outside.specs.Runs.{LeavesOnly}

@@ -1,5 +1,5 @@
 -- How the runs of `lead` and `follow` end, as a run promises it.
-use Rattle.std.proofs.Common.{◌≡◌, ◌≢◌, ◌∙◌, ◌⊎◌, inl, inr, Bool, true, false, eqb, List, [], ◌∷◌, Option, Some, refl, sym, ap, subst}
+use Rattle.std.proofs.Common.{◌≡◌, ◌≢◌, ◌∙◌, ◌⊎◌, inl, inr, false, eqb, List, [], ◌∷◌, Option, Some, refl, sym, ap, subst}
 use Rattle.std.specs.Prelude.{Err}
 use Rattle.ox_outside.specs.Event.{Event, has_ended}
 use Rattle.ox_outside.specs.Files.{Files}

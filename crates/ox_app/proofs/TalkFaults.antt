@@ -1,5 +1,5 @@
 -- What fails in a talk, and how it ends then.
-use Rattle.std.proofs.Common.{◌≡◌, ◌∙◌, ◌⊎◌, inl, inr, false, eqb, refl, sym, ap}
+use Rattle.std.proofs.Common.{◌≡◌, ◌∙◌, inl, inr, false, eqb, refl, sym, ap}
 use Rattle.std.specs.Prelude.{Result, Ok, Err, IsErrOf}
 use Rattle.ox_outside.specs.Counts.{Counts, IsFailure, NoFault, NoneFell, StopsAtFault}
 use Rattle.ox_outside.specs.declared.site.Failed.{Failed}
@@ -10,7 +10,7 @@ use Rattle.ox_feed.specs.declared.lines.FeedFault.TheVariants as feeds
 use Rattle.ox_follow.specs.Talk.{End}
 use Rattle.ox_follow.specs.Talk as talks
 use Rattle.ox_app.specs.OneFrame.{Faults}
-use Rattle.ox_app.specs.Show.{DiskFails, HearFails, ShowFails}
+use Rattle.ox_app.specs.Show.{HearFails, ShowFails}
 use Rattle.ox_app.specs.Status.{IsFollowTalk, IsLeadTalk, code_of, end_status, feed_status}
 use Rattle.ox_app.specs.declared.status.Status.{Status}
 use Rattle.ox_app.specs.declared.status.Status.TheVariants as ends

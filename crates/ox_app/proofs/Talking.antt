@@ -1,10 +1,9 @@
 -- A talk in frames goes on from party to party, and ends: on plain logs, whatever the parties are.
-use Rattle.std.proofs.Common.{◌≡◌, ◌∙◌, ℕ, ◌≤◌, ◌||◌, Bool, true, false, List, [], ◌∷◌, ◌++◌, length, refl, sym, ap, arith, append_assoc, length-append}
-use Rattle.std.specs.Prelude.{All, IsTrue, Option, Some}
+use Rattle.std.proofs.Common.{◌≡◌, ◌∙◌, ℕ, ◌≤◌, ◌||◌, Bool, true, false, List, [], ◌++◌, length, refl, sym, ap, arith, append_assoc, length-append}
+use Rattle.std.specs.Prelude.{Some}
 use Rattle.std.proofs.lemmas.List.{append-nil}
 use Rattle.std.proofs.lemmas.List.Elements.{All-append, All-nil}
 use Rattle.ox_outside.specs.Event.{Event, has_ended, heard_bytes, shown_bytes}
-use Rattle.ox_outside.specs.Shown.{IsFrontOf}
 use Rattle.ox_outside.proofs.Event.{heard_bytes-append, shown_bytes-append, has_ended-append}
 use Rattle.ox_feed.specs.Feed.{Feed, Hears, feed_limit, new_feed}
 use Rattle.ox_follow.specs.Talk.{End}

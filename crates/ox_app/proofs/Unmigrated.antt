@@ -6,6 +6,7 @@ use Rattle.ox_outside.specs.Runs.{Calls}
 use Rattle.ox_outside.specs.declared.site.Site.{Ghosts as Meanings}
 use Rattle.ox_outside.specs.declared.site.Which.{Which}
 use Rattle.ox_outside.proofs.Counts.{stops_after, stops_as, went_on}
+use Rattle.ox_gated.specs.declared.fault.Halt.TheVariants as halts
 use Rattle.ox_model.specs.Stack.{Stack}
 use Rattle.ox_rules.specs.declared.refusal.Refusal.{Refusal}
 use Rattle.ox_files.specs.OldStands.{OldFault, IllFormed, Refused, old_stands}
@@ -88,26 +89,26 @@ old_not_store status (inr is) = record { store = λ e. cc e; show = λ e. cc e; 
 
 -- ---- counts
 
-pub migrated_well : {T : Type 0} (x : T) (old new : Counts) → StopsAtFault (IsErrOf {T = T} {E = MigrateFault} (Ok x) migrates.DiskFault) ⊥ ⊥ old new → NoFault old new
-migrated_well {T} x old new stopped = went_on (IsErrOf {T = T} {E = MigrateFault} (Ok x) migrates.DiskFault) ⊥ ⊥ old new (λ is. cc is) (λ no. no) (λ no. no) stopped
+pub migrated_well : {T : Type 0} (x : T) (old new : Counts) → StopsAtFault (IsErrOf {T = T} {E = MigrateFault} (Ok x) (migrates.Halt halts.Disk)) ⊥ ⊥ old new → NoFault old new
+migrated_well {T} x old new stopped = went_on (IsErrOf {T = T} {E = MigrateFault} (Ok x) (migrates.Halt halts.Disk)) ⊥ ⊥ old new (λ is. cc is) (λ no. no) (λ no. no) stopped
 
-pub not_disk_old : {T : Type 0} (fault : MigrateFault) (old new : Counts) → (fault ≡ migrates.DiskFault → ⊥) → StopsAtFault (IsErrOf {T = T} (Err fault) migrates.DiskFault) ⊥ ⊥ old new → NoFault old new
+pub not_disk_old : {T : Type 0} (fault : MigrateFault) (old new : Counts) → (fault ≡ migrates.Halt halts.Disk → ⊥) → StopsAtFault (IsErrOf {T = T} (Err fault) (migrates.Halt halts.Disk)) ⊥ ⊥ old new → NoFault old new
 not_disk_old {T} fault old new other stopped =
-    went_on (IsErrOf {T = T} (Err fault) migrates.DiskFault) ⊥ ⊥ old new (λ is. let e : fault ≡ migrates.DiskFault = cc is in other e) (λ no. no) (λ no. no) stopped
+    went_on (IsErrOf {T = T} (Err fault) (migrates.Halt halts.Disk)) ⊥ ⊥ old new (λ is. let e : fault ≡ migrates.Halt halts.Disk = cc is in other e) (λ no. no) (λ no. no) stopped
 
 -- a fault that isn't the disk's
-pub store_isnt_disk : (fault : MigrateFault) (file : Which) (at : ℕ) → fault ≡ migrates.NotStore file at → fault ≡ migrates.DiskFault → ⊥
-store_isnt_disk fault file at is other = let e : migrates.NotStore file at ≡ migrates.DiskFault = sym is ∙ other in cc e
+pub store_isnt_disk : (fault : MigrateFault) (file : Which) (at : ℕ) → fault ≡ migrates.NotStore file at → fault ≡ migrates.Halt halts.Disk → ⊥
+store_isnt_disk fault file at is other = let e : migrates.NotStore file at ≡ migrates.Halt halts.Disk = sym is ∙ other in cc e
 
-pub old_isnt_disk : (fault : MigrateFault) (command : ℕ) (refusal : Refusal) → fault ≡ migrates.Old command refusal → fault ≡ migrates.DiskFault → ⊥
-old_isnt_disk fault command refusal is other = let e : migrates.Old command refusal ≡ migrates.DiskFault = sym is ∙ other in cc e
+pub old_isnt_disk : (fault : MigrateFault) (command : ℕ) (refusal : Refusal) → fault ≡ migrates.Old command refusal → fault ≡ migrates.Halt halts.Disk → ⊥
+old_isnt_disk fault command refusal is other = let e : migrates.Old command refusal ≡ migrates.Halt halts.Disk = sym is ∙ other in cc e
 
-pub memory_isnt_disk : (fault : MigrateFault) → fault ≡ migrates.Memory → fault ≡ migrates.DiskFault → ⊥
-memory_isnt_disk fault is other = let e : migrates.Memory ≡ migrates.DiskFault = sym is ∙ other in cc e
+pub memory_isnt_disk : (fault : MigrateFault) → fault ≡ migrates.Halt halts.Memory → fault ≡ migrates.Halt halts.Disk → ⊥
+memory_isnt_disk fault is other = let e : migrates.Halt halts.Memory ≡ migrates.Halt halts.Disk = sym is ∙ other in cc e
 
-pub disk_stops : {T : Type 0} (fault : MigrateFault) (old new : Counts) → StopsAtFault (IsErrOf {T = T} (Err fault) migrates.DiskFault) ⊥ ⊥ old new → EndsAtFault ends.DiskFault old new
+pub disk_stops : {T : Type 0} (fault : MigrateFault) (old new : Counts) → StopsAtFault (IsErrOf {T = T} (Err fault) (migrates.Halt halts.Disk)) ⊥ ⊥ old new → EndsAtFault ends.DiskFault old new
 disk_stops {T} fault old new stopped =
-    stops_as (IsErrOf {T = T} (Err fault) migrates.DiskFault) ⊥ ⊥ (ends.DiskFault ≡ ends.DiskFault) (ends.DiskFault ≡ ends.HearFault) ((ends.DiskFault ≡ ends.ShowFault) ⊎ IsRefusal ends.DiskFault) old new
+    stops_as (IsErrOf {T = T} (Err fault) (migrates.Halt halts.Disk)) ⊥ ⊥ (ends.DiskFault ≡ ends.DiskFault) (ends.DiskFault ≡ ends.HearFault) ((ends.DiskFault ≡ ends.ShowFault) ⊎ IsRefusal ends.DiskFault) old new
     (λ is. refl) (λ no. absurd no) (λ no. absurd no) stopped
 
 -- a line of refusal is shown behind calls of which none failed

@@ -14,6 +14,7 @@ use Rattle.ox_links.specs.Survives.{acknowledged_to}
 use Rattle.ox_feed.specs.declared.command.Command.{Command}
 use Rattle.ox_model.specs.Machine.{Machine, stack_of}
 use Rattle.ox_model.specs.Replies.{after}
+use Rattle.ox_model.specs.Stack.{Stack}
 use Rattle.ox_files.specs.Runs.{Keeps, Run, SurvivesFrom, first_lines}
 use Rattle.ox_files.specs.Stands.{stands}
 use Rattle.ox_desk.specs.Servers.{server_of}
@@ -26,6 +27,8 @@ pub data AnyRun : Type 0 where
   Fed : (run : Run) → AnyRun
   -- it carried out the commands of links, as `serve`
   Served : (run : Run) → AnyRun
+  -- it wrote the same stack anew, as `grow`, and left these files
+  Grown : (left : Files) → AnyRun
   -- it wrote no file, as `query`, or refused them
   Spared : AnyRun
 
@@ -33,6 +36,7 @@ pub data AnyRun : Type 0 where
 abbrev pub left_by : Files → AnyRun → Files
 left_by files (Fed run) = run.left
 left_by files (Served run) = run.left
+left_by files (Grown left) = left
 left_by files Spared = files
 
 -- whatever machine the files stand for that a server opens, those that it leaves survive its links
@@ -40,10 +44,15 @@ abbrev pub SurvivesServed : Files → Run → Type 0
 SurvivesServed files run = (machine : Machine) → stands files ≡ Ok (stack_of machine)
     → SurvivesLinks server_of machine StandForMachine run.left run.events
 
+-- whatever stack the files stand for that a run opens, so do those that it leaves
+abbrev pub KeepsStack : Files → Files → Type 0
+KeepsStack files left = (stack : Stack) → stands files ≡ Ok stack → stands left ≡ Ok stack
+
 -- the files that a run leaves survive what it did
 abbrev pub SurvivesAny : Files → AnyRun → Type 0
 SurvivesAny files (Fed run) = SurvivesFrom files run
 SurvivesAny files (Served run) = SurvivesServed files run
+SurvivesAny files (Grown left) = KeepsStack files left
 SurvivesAny files Spared = Unit {0}
 
 -- each run opens the files that the one before it left
@@ -78,6 +87,7 @@ abbrev pub LeadsOn : Machine → AnyRun → Machine → Type 0
 LeadsOn machine (Fed run) next =
     (kept : ℕ) × Keeps machine run.events kept × (next ≡ after machine (first_lines kept run))
 LeadsOn machine (Served run) next = KeepsCommands machine run.events next
+LeadsOn machine (Grown left) next = next ≡ machine
 LeadsOn machine Spared next = next ≡ machine
 
 -- so does each of several, one after the other
@@ -99,4 +109,11 @@ IsServedInTurn means old new =
     LeavesOnly means old new (λ r.
     Grows (λ events. events ≢ []
     → SurvivesServed (means.seen old) (record { events = events; left = r.files }))
+    (means.log old) (Some r.log))
+
+-- The same of a growing: those that it leaves stand for the stack for which the files stood.
+abbrev pub IsGrownInTurn : {S : Type 0} → Meanings S → S → S → Type 0
+IsGrownInTurn means old new =
+    LeavesOnly means old new (λ r.
+    Grows (λ events. events ≢ [] → KeepsStack (means.seen old) r.files)
     (means.log old) (Some r.log))

@@ -10,6 +10,7 @@ use Rattle.ox_feed.specs.declared.lines.FeedFault.{FeedFault}
 use Rattle.ox_feed.specs.declared.lines.FeedFault.TheVariants.{HearFault as FeedHearFault}
 use Rattle.ox_feed.specs.declared.lines.FeedFault.TheVariants.{TooMuch as FeedTooMuch}
 use Rattle.ox_feed.specs.declared.lines.FeedFault.TheVariants.{Memory as FeedMemory}
+use Rattle.ox_gated.specs.declared.fault.Halt.TheVariants as halts
 use Rattle.ox_model.specs.Replies.{after_turn, index_on, ok_line, reply_by}
 use Rattle.ox_model.specs.Stack.{Stack, stack_after, turn_on}
 use Rattle.ox_rules.specs.Text.{refusal_line}
@@ -17,7 +18,7 @@ use Rattle.ox_rules.specs.declared.refusal.Refusal.{Refusal}
 use Rattle.ox_rules.specs.declared.why.Why.{Why}
 use Rattle.ox_rules.specs.declared.why.Why.TheVariants.{Refused, Memory as NoMemory}
 use Rattle.ox_app.specs.declared.stop.Stop.{Stop}
-use Rattle.ox_app.specs.declared.stop.Stop.TheVariants.{HearFault, Memory, TooMuch}
+use Rattle.ox_app.specs.declared.stop.Stop.TheVariants.{Halt, HearFault, TooMuch}
 
 -- how many blocks a run without files may keep
 abbrev pub fold_depth : ℕ
@@ -92,7 +93,7 @@ AnswersNext lines stack result lines' stack' =
 abbrev pub stop_of : FeedFault → Stop
 stop_of FeedHearFault = HearFault
 stop_of FeedTooMuch = TooMuch
-stop_of FeedMemory = Memory
+stop_of FeedMemory = Halt halts.Memory
 
 -- there was a line, and it is answered
 abbrev pub HasAnswer : Result (Option (List ℕ)) Stop → Type 0

@@ -15,7 +15,7 @@ use Rattle.ox_app.specs.Grow.{GrowsFirst, IsGrown, SaysNoGrowing, StandsForGrowi
 use Rattle.ox_app.specs.Grow.{StandsForNoGrowing, grown_line}
 use Rattle.ox_app.specs.Headline.{AddsNoImage, AnswersFeed, IsRunInTurn, StandsFor, StopsAtLine}
 use Rattle.ox_app.specs.Init.{IsMade, MakesFirst, made_line}
-use Rattle.ox_app.specs.AnyRuns.{IsServedInTurn}
+use Rattle.ox_app.specs.AnyRuns.{IsGrownInTurn, IsServedInTurn}
 use Rattle.ox_app.specs.Follow.{IsFollowInTurn}
 use Rattle.ox_app.specs.Query.{query_body}
 use Rattle.ox_app.specs.Serve.{AnswersLinks, DoorFails, SurvivesServing}
@@ -185,6 +185,9 @@ pub record GrowsStore {S : Type 0} (means : Meanings S) (status : Status) (old n
   -- whenever the run stops, the files stand for that stack
   pub grow_survives : (stack : Stack) → StandsForGrowing means old stack
       → GrowsFirst means stack old new
+  -- what it leaves behind its first event is a run in turn, as `all_runs_follow_chains` counts them
+  pub grow_in_turn : (stack : Stack) → StandsForGrowing means old stack
+      → IsGrownInTurn means old new
   -- on files that stand for none so: the first test that fails is shown, and nothing else; and they
   -- are spared
   pub ungrown : (misfit : Misfit) → StandsForNoGrowing means old misfit

@@ -7,6 +7,7 @@ use Rattle.ox_outside.specs.Log.{Grows}
 use Rattle.ox_outside.specs.declared.site.Failed.{Failed}
 use Rattle.ox_outside.specs.declared.site.Site.{Ghosts as Meanings}
 use Rattle.ox_feed.specs.Feed.{feed_limit}
+use Rattle.ox_gated.specs.declared.fault.Halt.TheVariants as halts
 use Rattle.ox_app.specs.Headline.{IsFrontOf, OnlyOwn}
 use Rattle.ox_app.specs.Status.{IsDone, IsRefusal}
 use Rattle.ox_app.specs.declared.status.Status.{Status}
@@ -43,7 +44,7 @@ EndsAtFault status old new =
 -- the same of a part of a run, by why it stopped
 abbrev pub EndsAtStop : {T : Type 0} → Result T Stop → Counts → Counts → Type 0
 EndsAtStop result old new =
-    StopsAtFault (IsErrOf result stops.DiskFault) (IsErrOf result stops.HearFault)
+    StopsAtFault (IsErrOf result (stops.Halt halts.Disk)) (IsErrOf result stops.HearFault)
     (IsErrOf result stops.ShowFault) old new
 
 -- of a line of which a front may be shown: at most one showing failed, the last

@@ -7,6 +7,8 @@ use Rattle.ox_app.specs.declared.status.Status.TheVariants.{DoorFault, Memory, T
 use Rattle.ox_app.specs.declared.status.Status.TheVariants.{BadFrame, Ahead, EndedEarly}
 use Rattle.ox_feed.specs.declared.lines.FeedFault.{FeedFault}
 use Rattle.ox_feed.specs.declared.lines.FeedFault.TheVariants as feeds
+use Rattle.ox_gated.specs.declared.fault.Halt.{Halt}
+use Rattle.ox_gated.specs.declared.fault.Halt.TheVariants as halts
 use Rattle.ox_store.specs.declared.fault.OpenFault.{OpenFault}
 use Rattle.ox_store.specs.declared.fault.OpenFault.TheVariants as opens
 use Rattle.ox_follow.specs.Talk.{End}
@@ -35,13 +37,17 @@ code_of BadFrame = 11
 code_of Ahead = 12
 code_of EndedEarly = 13
 
+-- how a run ends that was halted
+abbrev pub halt_status : Halt → Status
+halt_status halts.Disk = DiskFault
+halt_status halts.Memory = Memory
+
 -- how a run over a feed ends
 abbrev pub status_of : Result (Unit {0}) Stop → Status
 status_of (Ok done) = Done
-status_of (Err stops.DiskFault) = DiskFault
+status_of (Err (stops.Halt halt)) = halt_status halt
 status_of (Err stops.HearFault) = HearFault
 status_of (Err stops.ShowFault) = ShowFault
-status_of (Err stops.Memory) = Memory
 status_of (Err stops.TooMuch) = TooMuch
 
 -- how a server ends whose turns a fault ended
@@ -59,14 +65,12 @@ feed_status feeds.Memory = Memory
 -- how a run ends whose files aren't opened
 abbrev pub open_status : OpenFault → Status
 open_status (opens.NotStore file at) = NotStore
-open_status opens.DiskFault = DiskFault
-open_status opens.Memory = Memory
+open_status (opens.Halt halt) = halt_status halt
 
 -- how a drill ends that a fault ended
 abbrev pub drill_status : DrillFault → Status
 drill_status drills.NotEmpty = NotEmpty
-drill_status drills.DiskFault = DiskFault
-drill_status drills.Memory = Memory
+drill_status (drills.Halt halt) = halt_status halt
 
 -- how a run ends that frames ended, or the end of channel 0 behind them
 abbrev pub end_status : End → Status

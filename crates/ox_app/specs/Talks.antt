@@ -1,7 +1,7 @@
 -- Runs that hear frames and show frames: `lead` and `follow`. What each shows of the frames that it
 -- hears and how these end it stands in ox_follow; the rules of a store's records and bodies and the
 -- place where its files stand, in ox_pieces.
-use Rattle.std.specs.Prelude.{◌≡◌, ◌⊎◌, ℕ, ◌≤◌, Bool, true, false, IsTrue}
+use Rattle.std.specs.Prelude.{◌≡◌, ℕ, ◌≤◌, Bool, true, false, IsTrue}
 use Rattle.std.specs.Prelude.{List, ◌∷◌, length, map, Option, Some, Err}
 use Rattle.std.specs.List.{concat}
 use Rattle.ox_outside.specs.Event.{Event, heard_bytes, shown_bytes, has_ended}

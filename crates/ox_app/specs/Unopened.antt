@@ -8,8 +8,9 @@ use Rattle.ox_files.specs.Stands.{Misfit, stands}
 use Rattle.ox_store.specs.declared.fault.OpenFault.{OpenFault}
 use Rattle.ox_store.specs.declared.fault.OpenFault.TheVariants as opens
 use Rattle.ox_app.specs.Show.{Says}
+use Rattle.ox_app.specs.Status.{halt_status}
 use Rattle.ox_app.specs.declared.status.Status.{Status}
-use Rattle.ox_app.specs.declared.status.Status.TheVariants.{NotStore, DiskFault, Memory}
+use Rattle.ox_app.specs.declared.status.Status.TheVariants.{NotStore, Memory}
 
 -- the letter of a file
 abbrev pub letter_of : Which → List ℕ
@@ -33,13 +34,10 @@ abbrev pub UnopenedAs : {S : Type 0} → Meanings S → OpenFault → Status →
 UnopenedAs means (opens.NotStore file at) status old new =
     ((status ≡ NotStore) × Says means (not_store_line (record { file = file; at = at })) old new)
     ⊎ ((status ≡ Memory) × (means.log new ≡ means.log old))
-UnopenedAs means opens.DiskFault status old new =
-    (status ≡ DiskFault) × (means.log new ≡ means.log old)
-UnopenedAs means opens.Memory status old new =
-    (status ≡ Memory) × (means.log new ≡ means.log old)
+UnopenedAs means (opens.Halt halt) status old new =
+    (status ≡ halt_status halt) × (means.log new ≡ means.log old)
 
 -- what is logged then
 abbrev pub LogsUnopened : OpenFault → List Event → Type 0
 LogsUnopened (opens.NotStore file at) events = Unit {0}
-LogsUnopened opens.DiskFault events = events ≡ []
-LogsUnopened opens.Memory events = events ≡ []
+LogsUnopened (opens.Halt halt) events = events ≡ []

@@ -11,10 +11,12 @@ ghost use Rattle.ox_app.specs.Apply.{CarriesOutNext, DuringLine};
 ghost use Rattle.ox_app.specs.Headline.{AddsNoImage, Leaves, RunsFeed, StopsBefore, Survives};
 ghost use Rattle.ox_outside.specs.Runs.{Calls, LeavesOnly};
 ghost use Rattle.ox_gated.specs.Tail.{Holds, IsSettled};
+ghost use Rattle.ox_gated.specs.declared.fault.Halt.TheVariants as halts;
 ghost use Rattle.ox_app.specs.Show.{DiskFails, EndsAtFault, EndsAtStop, HearFails, ShowFails};
 ghost use Rattle.ox_app.specs.Stacks.{FeedsSome};
 ghost use Rattle.ox_app.specs.Status.{IsApplyStatus, IsUnopened, status_of};
 ghost use Rattle.ox_app.specs.Unopened.{SaysNotStore};
+ghost use Rattle.ox_app.specs.declared.stop.Stop.TheVariants as stops;
 ghost use Rattle.ox_app.specs.declared.status.Status.TheVariants as ends;
 
 use crate::carry::{CarriedLine, carry_out};
@@ -48,8 +50,8 @@ fn next_carried<S: Site>(
         → IfOk result (λ carried. IfSome carried
         (λ c. stands (S.seen site.new) ≡ Ok c.store.stack)) }
     ensures out_of_memory { IsTrue (S.told site.old) → stands (S.seen site.old) ≡ Ok store.stack
-        → IsErrOf result Stop.Memory → stands (S.seen site.new) ≡ Ok store.stack }
-    ensures settled { IsTrue (S.told site.old) → IsErrOf result Stop.Memory
+        → IsErrOf result (stops.Halt halts.Memory) → stands (S.seen site.new) ≡ Ok store.stack }
+    ensures settled { IsTrue (S.told site.old) → IsErrOf result (stops.Halt halts.Memory)
         → IsSettled S.Site site.new }
     ensures one_more { IfOk result (λ carried. IfSome carried
         (λ c. c.store.commands ≤ store.commands + 1)) }
@@ -58,7 +60,8 @@ fn next_carried<S: Site>(
     ensures count { lines.new.heard ≤ feed_limit }
     ensures too_much { IsErrOf result Stop.TooMuch → IsTooMuch lines.new }
     ensures hear_fault { IsErrOf result Stop.HearFault → HearFails S.Site site.old site.new }
-    ensures disk_fault { IsErrOf result Stop.DiskFault → DiskFails S.Site site.old site.new }
+    ensures disk_fault { IsErrOf result (stops.Halt halts.Disk)
+        → DiskFails S.Site site.old site.new }
     ensures no_show_fault { IsErrOf result Stop.ShowFault → ⊥ }
     ensures counted { EndsAtStop result (S.counts site.old) (S.counts site.new) }
     ensures calls { Calls S.Site site.old site.new }
@@ -78,13 +81,14 @@ fn answer_feed<S: Site>(alloc: Global, store: Store, site: &mut S) -> Result<(),
         Grows (λ events. Survives (replies_on store.stack) (after_on store.stack) events r.files)
         (S.log site.old) (Some r.log)) }
     ensures out_of_memory { IsTrue (S.told site.old) → stands (S.seen site.old) ≡ Ok store.stack
-        → IsErrOf result Stop.Memory
+        → IsErrOf result (stops.Halt halts.Memory)
         → Grows (StopsBefore (replies_on store.stack) (after_on store.stack) (S.seen site.new))
         (S.log site.old) (S.log site.new) }
     ensures hear_fault { IsErrOf result Stop.HearFault → HearFails S.Site site.old site.new }
     ensures show_fault { IsErrOf result Stop.ShowFault → ShowFails S.Site site.old site.new }
-    ensures disk_fault { IsErrOf result Stop.DiskFault → DiskFails S.Site site.old site.new }
-    ensures settled { IsTrue (S.told site.old) → IsErrOf result Stop.Memory
+    ensures disk_fault { IsErrOf result (stops.Halt halts.Disk)
+        → DiskFails S.Site site.old site.new }
+    ensures settled { IsTrue (S.told site.old) → IsErrOf result (stops.Halt halts.Memory)
         → IsSettled S.Site site.new }
     ensures counted { EndsAtStop result (S.counts site.old) (S.counts site.new) }
     ensures calls { Calls S.Site site.old site.new }

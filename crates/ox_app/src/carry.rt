@@ -6,6 +6,7 @@ ghost use Rattle.ox_outside.specs.Crash.{AddsNothing};
 ghost use Rattle.ox_outside.specs.Runs.{LeavesOnly};
 ghost use Rattle.ox_gated.specs.Tail.{Holds};
 ghost use Rattle.ox_gated.specs.Writes.{OnlyWrites};
+ghost use Rattle.ox_gated.specs.declared.fault.Halt.TheVariants as halts;
 ghost use Rattle.ox_model.specs.Replies.{index_on, reply_by};
 ghost use Rattle.ox_model.specs.Stack.{Stack, stack_after};
 ghost use Rattle.ox_files.specs.Stands.{stands};
@@ -21,7 +22,7 @@ use crate::line::asked_by;
 use crate::stop::Stop;
 use ox_bytes::{Bytes, Room};
 use ox_feed::{Command, Line};
-use ox_gated::DiskFault;
+use ox_gated::{DiskFault, Halt};
 use ox_model::Refusal;
 use ox_outside::Site;
 use ox_rules::{LONGEST_OK, ok_line_in};
@@ -41,7 +42,7 @@ pub struct CarriedLine {
 fn refuse(alloc: Global, store: Store, refusal: Refusal) -> Result<CarriedLine, Stop>
     ensures store { IfOk result (λ carried. carried.store ≡ store) }
     ensures answer { IfOk result (λ carried. carried.answer ≡ refusal_line refusal) }
-    ensures stops { IfErr result (λ stop. stop ≡ stops.Memory) }
+    ensures stops { IfErr result (λ stop. stop ≡ stops.Halt halts.Memory) }
 {
     let answer = refusal.line(alloc)?;
     Ok(CarriedLine { store, answer })
@@ -64,15 +65,15 @@ fn commit<S: Site>(ready: Ready, room: Room, site: &mut S) -> Result<CarriedLine
     ensures any_moment { IsTrue (S.told site.old)
         → (before : Stack) → stands (S.seen site.old) ≡ Ok before → Leads before ready
         → LeavesOnly S.Site site.old site.new (λ r. StandsForEither before ready.stack r.files) }
-    ensures stops { IfErr result (λ stop. stop ≡ stops.DiskFault) }
-    ensures failed { IsErrOf result Stop.DiskFault → DiskFails S.Site site.old site.new }
+    ensures stops { IfErr result (λ stop. stop ≡ stops.Halt halts.Disk) }
+    ensures failed { IsErrOf result (stops.Halt halts.Disk) → DiskFails S.Site site.old site.new }
     ensures counted { EndsAtStop result (S.counts site.old) (S.counts site.new) }
     ensures writes { OnlyWrites S.Site site.old site.new }
 {
     let answer = ok_line_in(room, ready.tip());
     match ready.commit(site) {
         Ok(store) => Ok(CarriedLine { store, answer }),
-        Err(DiskFault) => Err(Stop::DiskFault),
+        Err(DiskFault) => Err(Stop::Halt(Halt::Disk)),
     }
 }
 
@@ -89,13 +90,13 @@ fn carry_command<S: Site>(
         result site.old site.new }
 {
     let Ok(room) = Room::new(alloc, LONGEST_OK) else {
-        return Err(Stop::Memory);
+        return Err(Stop::Halt(Halt::Memory));
     };
     match store.prepare(command) {
         Ok(ready) => commit(ready, room, site),
         Err(Kept { store, why }) => match why {
             Why::Refused(refusal) => refuse(alloc, store, refusal),
-            Why::Memory => Err(Stop::Memory),
+            Why::Memory => Err(Stop::Halt(Halt::Memory)),
         },
     }
 }
@@ -120,7 +121,7 @@ fn carry_asked<S: Site>(
 /// Carries out a line and answers it; `None` at the end of the feed. The line's own bytes are given
 /// back before its command is carried out, and all memory of a command and its answer is taken
 /// before its record is written. At any moment of the call a crash leaves files that stand for the
-/// stack before the line or for the one after it. `DiskFault` only where a call on a file failed;
+/// stack before the line or for the one after it. `Disk` only where a call on a file failed;
 /// `Memory` where there is none, and the line isn't carried out then.
 pub fn carry_out<S: Site>(
     alloc: Global,
@@ -141,10 +142,11 @@ pub fn carry_out<S: Site>(
     ensures any_moment { IsTrue (S.told site.old) → stands (S.seen site.old) ≡ Ok store.stack
         → LeavesOnly S.Site site.old site.new (λ r.
         StandsForEither store.stack (after_line store.stack line) r.files) }
-    ensures out_of_memory { IsErrOf result Stop.Memory
+    ensures out_of_memory { IsErrOf result (stops.Halt halts.Memory)
         → AddsNothing S.seen S.log S.may_leave site.old site.new }
-    ensures stops { IfErr result (λ stop. (stop ≡ stops.DiskFault) ⊎ (stop ≡ stops.Memory)) }
-    ensures failed { IsErrOf result Stop.DiskFault → DiskFails S.Site site.old site.new }
+    ensures stops { IfErr result (λ stop. (stop ≡ stops.Halt halts.Disk)
+        ⊎ (stop ≡ stops.Halt halts.Memory)) }
+    ensures failed { IsErrOf result (stops.Halt halts.Disk) → DiskFails S.Site site.old site.new }
     ensures counted { EndsAtStop result (S.counts site.old) (S.counts site.new) }
     ensures writes { OnlyWrites S.Site site.old site.new }
 {

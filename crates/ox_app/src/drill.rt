@@ -13,6 +13,7 @@ ghost use Rattle.ox_app.specs.declared.status.Status.TheVariants as ends;
 use crate::show::{say, tell};
 use crate::status::Status;
 use ox_drill::{DrillFault, drill_store};
+use ox_gated::Halt;
 use ox_outside::Site;
 use std::alloc::Global;
 
@@ -37,7 +38,7 @@ pub fn drill<S: Site>(alloc: Global, site: &mut S, n: u32) -> Status
             say(site, b"not empty\n");
             Status::NotEmpty
         }
-        Err(DrillFault::DiskFault) => Status::DiskFault,
-        Err(DrillFault::Memory) => Status::Memory,
+        Err(DrillFault::Halt(Halt::Disk)) => Status::DiskFault,
+        Err(DrillFault::Halt(Halt::Memory)) => Status::Memory,
     }
 }

@@ -10,8 +10,10 @@ ghost use Rattle.ox_index.specs.Chain.{stack_in};
 ghost use Rattle.ox_app.specs.Fold.{AnswersNext, Anything, HasAnswer, fold_depth};
 ghost use Rattle.ox_app.specs.Headline.{RunsFeed};
 ghost use Rattle.ox_outside.specs.Runs.{OnlyTalks};
+ghost use Rattle.ox_gated.specs.declared.fault.Halt.TheVariants as halts;
 ghost use Rattle.ox_app.specs.Show.{EndsAtStop, HearFails, ShowFails};
 ghost use Rattle.ox_app.specs.Status.{status_of};
+ghost use Rattle.ox_app.specs.declared.stop.Stop.TheVariants as stops;
 
 use crate::answer::answer;
 use crate::show::show_all;
@@ -39,7 +41,7 @@ fn next_answer<S: Site>(
         (S.log site.old) (S.log site.new) }
     ensures hear_fault { IsErrOf result Stop.HearFault → HearFails S.Site site.old site.new }
     ensures no_show_fault { IsErrOf result Stop.ShowFault → ⊥ }
-    ensures no_disk_fault { IsErrOf result Stop.DiskFault → ⊥ }
+    ensures no_disk_fault { IsErrOf result (stops.Halt halts.Disk) → ⊥ }
     ensures counted { EndsAtStop result (S.counts site.old) (S.counts site.new) }
     ensures too_much { IsErrOf result Stop.TooMuch → IsTooMuch lines.new }
     ensures fewer { HasAnswer result → bytes_left lines.new < bytes_left lines.old }
@@ -60,7 +62,7 @@ pub fn fold<S: Site>(alloc: Global, p: &Profile, site: &mut S) -> Result<(), Sto
         (S.log site.old) (S.log site.new) }
     ensures hear_fault { IsErrOf result Stop.HearFault → HearFails S.Site site.old site.new }
     ensures show_fault { IsErrOf result Stop.ShowFault → ShowFails S.Site site.old site.new }
-    ensures no_disk_fault { IsErrOf result Stop.DiskFault → ⊥ }
+    ensures no_disk_fault { IsErrOf result (stops.Halt halts.Disk) → ⊥ }
     ensures counted { EndsAtStop result (S.counts site.old) (S.counts site.new) }
     ensures talks { OnlyTalks S.Site Anything site.old site.new }
 {

@@ -26,6 +26,7 @@ use crate::show::show_all;
 use crate::status::Status;
 use crate::talk::frame_in_front;
 use ox_follow::{Frame, Position, have_front};
+use ox_gated::Halt;
 use ox_outside::{Failed, Site};
 use ox_pieces::{Follower, Frames, NotTaken};
 use std::alloc::Global;
@@ -53,7 +54,10 @@ fn take<S: Site>(follower: Follower, frame: &Frame, site: &mut S) -> Result<Foll
     ensures writes { OnlyWrites S.Site site.old site.new }
 {
     match follower.take(frame) {
-        Ok(taken) => Ok(taken.commit(site)?),
+        Ok(taken) => match taken.commit(site) {
+            Ok(next) => Ok(next),
+            Err(fault) => Err(Status::from(Halt::from(fault))),
+        },
         Err(NotTaken::NotNext(follower)) => Ok(follower),
         Err(NotTaken::NotFit(_)) => Err(Status::BadFrame),
         Err(NotTaken::IsLevel(_)) => Err(Status::Done),

@@ -12,7 +12,7 @@ use crate::status::Status;
 use crate::unopened::explain;
 use ox_gated::Halt;
 use ox_outside::Site;
-use ox_store::{GrowFault, OpenFault, Store};
+use ox_store::{OpenFault, Store};
 use std::alloc::Global;
 
 /// Makes a store of version 2 one of version 3, and says so. Where memory runs out, be it before
@@ -27,10 +27,10 @@ pub fn grow<S: Site>(alloc: Global, site: &mut S) -> Status
 {
     match Store::grow(alloc, site) {
         Ok(_store) => tell(site, b"ok grown\n"),
-        Err(GrowFault::NotStore { file, at }) => {
+        Err(OpenFault::NotStore { file, at }) => {
             explain(alloc, OpenFault::NotStore { file, at }, site)
         }
-        Err(GrowFault::Halt(Halt::Disk)) => Status::DiskFault,
-        Err(GrowFault::Halt(Halt::Memory)) => Status::Memory,
+        Err(OpenFault::Halt(Halt::Disk)) => Status::DiskFault,
+        Err(OpenFault::Halt(Halt::Memory)) => Status::Memory,
     }
 }

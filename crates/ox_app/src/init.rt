@@ -12,6 +12,7 @@ ghost use Rattle.ox_app.specs.declared.status.Status.TheVariants as ends;
 
 use crate::show::{say, tell};
 use crate::status::Status;
+use ox_gated::Halt;
 use ox_outside::Site;
 use ox_rules::empty_line;
 use ox_sat::ProfileName;
@@ -46,7 +47,7 @@ pub fn init<S: Site>(alloc: Global, site: &mut S, name: ProfileName, depth: u16)
             say(site, b"not empty\n");
             Status::NotEmpty
         }
-        Err(MakeFault::DiskFault) => Status::DiskFault,
-        Err(MakeFault::Memory) => Status::Memory,
+        Err(MakeFault::Halt(Halt::Disk)) => Status::DiskFault,
+        Err(MakeFault::Halt(Halt::Memory)) => Status::Memory,
     }
 }

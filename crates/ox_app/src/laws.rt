@@ -13,9 +13,9 @@ ghost use Rattle.ox_app.specs.AnyRuns.{AnyInTurn, AnyRun, LastOfAny};
 ghost use Rattle.ox_app.specs.Follow.{FollowInTurn, HearsSent, StandsWithLeader};
 
 /// Any number of runs of any subcommands over the same files, each of which opens what the one
-/// before it left and stops at whatever moment: it was fed, it served links, or it spared the
-/// files. The last files stand for the machine to which the lines and commands lead that each run
-/// kept, one run after the other.
+/// before it left and stops at whatever moment: it was fed, it served links, it grew the store, or
+/// it spared the files. The last files stand for the machine to which the lines and commands lead
+/// that each run kept, one run after the other.
 pub fn all_runs_follow_chains()
     ensures { (machine : Machine) (files : Files) (runs : List AnyRun)
         → stands files ≡ Ok (stack_of machine) → AnyInTurn files runs

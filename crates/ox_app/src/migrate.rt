@@ -20,6 +20,7 @@ use crate::status::Status;
 use crate::unopened::explain;
 use itoa::Buffer;
 use ox_bytes::{Bytes, Memory, Room};
+use ox_gated::Halt;
 use ox_model::Refusal;
 use ox_outside::Site;
 use ox_store::{MigrateFault, OpenFault, Store};
@@ -123,7 +124,7 @@ pub fn migrate<S: Site>(alloc: Global, site: &mut S) -> Status
             explain(alloc, OpenFault::NotStore { file, at }, site)
         }
         Err(MigrateFault::Old { command, refusal }) => explain_old(alloc, command, refusal, site),
-        Err(MigrateFault::DiskFault) => Status::DiskFault,
-        Err(MigrateFault::Memory) => Status::Memory,
+        Err(MigrateFault::Halt(Halt::Disk)) => Status::DiskFault,
+        Err(MigrateFault::Halt(Halt::Memory)) => Status::Memory,
     }
 }

@@ -34,7 +34,7 @@ pub enum ServeFault {
 }
 
 /// What a server counted.
-#[derive(Clone, Copy, Debug, PartialEq, Eq)]
+#[derive(Clone, Copy, PartialEq, Eq)]
 pub struct Totals {
     /// The requests that were answered. What was no request, and what ran out of memory, isn't
     /// counted.

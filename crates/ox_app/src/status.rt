@@ -5,7 +5,7 @@ ghost use Rattle.ox_app.specs.Status.{code_of};
 
 use ox_feed::FeedFault;
 use ox_follow::BadFrame;
-use ox_gated::DiskFault;
+use ox_gated::Halt;
 use ox_outside::Failed;
 use ox_store::OpenFault;
 
@@ -82,6 +82,19 @@ impl From<FeedFault> for Status {
     }
 }
 
+impl From<Halt> for Status {
+    ghost use Rattle.ox_app.specs.Status.{halt_status};
+
+    ghost from_gives = { λ halt status. status ≡ halt_status halt };
+
+    fn from(halt: Halt) -> Status {
+        match halt {
+            Halt::Disk => Status::DiskFault,
+            Halt::Memory => Status::Memory,
+        }
+    }
+}
+
 impl From<OpenFault> for Status {
     ghost use Rattle.ox_app.specs.Status.{open_status};
 
@@ -90,8 +103,7 @@ impl From<OpenFault> for Status {
     fn from(fault: OpenFault) -> Status {
         match fault {
             OpenFault::NotStore { .. } => Status::NotStore,
-            OpenFault::DiskFault => Status::DiskFault,
-            OpenFault::Memory => Status::Memory,
+            OpenFault::Halt(halt) => Status::from(halt),
         }
     }
 }
@@ -113,15 +125,5 @@ impl From<Failed> for Status {
 
     fn from(_failed: Failed) -> Status {
         Status::ShowFault
-    }
-}
-
-impl From<DiskFault> for Status {
-    ghost use Rattle.ox_app.specs.declared.status.Status.TheVariants as ends;
-
-    ghost from_gives = { λ _ status. status ≡ ends.DiskFault };
-
-    fn from(_fault: DiskFault) -> Status {
-        Status::DiskFault
     }
 }

@@ -6,20 +6,18 @@ ghost use Rattle.ox_app.specs.Status.{status_of};
 use crate::status::Status;
 use ox_bytes::Memory;
 use ox_feed::FeedFault;
-use ox_gated::DiskFault;
+use ox_gated::Halt;
 use ox_outside::Failed;
 
 /// Why a run over a feed ended before the feed did.
 #[derive(Clone, Copy, Debug, PartialEq, Eq)]
 pub enum Stop {
-    /// A call on a file failed.
-    DiskFault,
+    /// A call on a file failed, or there is no memory.
+    Halt(Halt),
     /// Hearing on channel 0 failed.
     HearFault,
     /// Showing on channel 0 failed.
     ShowFault,
-    /// There is no memory.
-    Memory,
     /// As many bytes were heard as a feed may have, and it goes on.
     TooMuch,
 }
@@ -30,10 +28,9 @@ pub fn status(outcome: Result<(), Stop>) -> Status
 {
     match outcome {
         Ok(()) => Status::Done,
-        Err(Stop::DiskFault) => Status::DiskFault,
+        Err(Stop::Halt(halt)) => Status::from(halt),
         Err(Stop::HearFault) => Status::HearFault,
         Err(Stop::ShowFault) => Status::ShowFault,
-        Err(Stop::Memory) => Status::Memory,
         Err(Stop::TooMuch) => Status::TooMuch,
     }
 }
@@ -47,7 +44,7 @@ impl From<FeedFault> for Stop {
         match fault {
             FeedFault::HearFault => Stop::HearFault,
             FeedFault::TooMuch => Stop::TooMuch,
-            FeedFault::Memory => Stop::Memory,
+            FeedFault::Memory => Stop::Halt(Halt::Memory),
         }
     }
 }
@@ -62,22 +59,13 @@ impl From<Failed> for Stop {
     }
 }
 
-impl From<DiskFault> for Stop {
+impl From<Memory> for Stop {
+    ghost use Rattle.ox_gated.specs.declared.fault.Halt.TheVariants as halts;
     ghost use Rattle.ox_app.specs.declared.stop.Stop.TheVariants as stops;
 
-    ghost from_gives = { λ _ stop. stop ≡ stops.DiskFault };
-
-    fn from(_fault: DiskFault) -> Stop {
-        Stop::DiskFault
-    }
-}
-
-impl From<Memory> for Stop {
-    ghost use Rattle.ox_app.specs.declared.stop.Stop.TheVariants.{Memory};
-
-    ghost from_gives = { λ _ stop. stop ≡ Memory };
+    ghost from_gives = { λ _ stop. stop ≡ stops.Halt halts.Memory };
 
     fn from(_memory: Memory) -> Stop {
-        Stop::Memory
+        Stop::Halt(Halt::Memory)
     }
 }

@@ -7,7 +7,7 @@ use ox_bytes::Bytes;
 use ox_sat::{ProfileName, read_number};
 
 /// What a run is asked for.
-#[derive(Clone, Copy, Debug)]
+#[derive(Clone, Copy)]
 pub enum Subcommand<'a> {
     /// A run over a feed, without files.
     Fold(ProfileName),

@@ -51,7 +51,6 @@ pub fn explain<S: Site>(alloc: Global, fault: OpenFault, site: &mut S) -> Status
             }
             Err(Memory) => Status::Memory,
         },
-        OpenFault::DiskFault => Status::DiskFault,
-        OpenFault::Memory => Status::Memory,
+        OpenFault::Halt(halt) => Status::from(halt),
     }
 }

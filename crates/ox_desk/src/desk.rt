@@ -7,6 +7,7 @@ ghost use Rattle.ox_outside.specs.Runs.{LeavesOnly};
 ghost use Rattle.ox_http.specs.declared.Method.TheVariants as methods;
 ghost use Rattle.ox_turns.specs.declared.handler.DeskFault.TheVariants as faults;
 ghost use Rattle.ox_links.specs.Counted.{no_tally};
+ghost use Rattle.ox_cache.specs.Kept.{none_kept};
 ghost use Rattle.ox_gated.specs.Writes.{OnlyWrites};
 ghost use Rattle.ox_desk.specs.Desk.{tally_of};
 
@@ -71,6 +72,14 @@ impl Model for StoreDesk {
         let desk = contents_in d.store d.requests d.cache in IsTrue desk.is_open → IsSound desk };
 }
 
+/// A cache for as many replies, which keeps none yet. `Memory` where there is none for its table.
+fn empty_cache(alloc: Global) -> Result<Cache, Memory>
+    ensures { IfOk result (λ cache. cache ≡ none_kept 64) }
+{
+    let room = NonZeroUsize::new(REPLIES_KEPT).unwrap_or(NonZeroUsize::MIN);
+    Cache::new(alloc, room)
+}
+
 impl StoreDesk {
     ghost use Rattle.ox_desk.specs.Desk.{CarriesOut, IsSound, Rests, Steps, Tells, stack_behind};
     ghost use Rattle.ox_desk.specs.PutBack.{desk_behind, desk_by, made_by};
@@ -86,8 +95,7 @@ impl StoreDesk {
         ensures fresh { IfOk result (λ desk. (desk.commands ≡ 0) × (desk.requests ≡ 0)
             × (tally_of desk.cache ≡ no_tally)) }
     {
-        let room = NonZeroUsize::new(REPLIES_KEPT).unwrap_or(NonZeroUsize::MIN);
-        let cache = Cache::new(alloc, room)?;
+        let cache = empty_cache(alloc)?;
         let routes = Routes::new(alloc)?;
         Ok(StoreDesk {
             alloc,

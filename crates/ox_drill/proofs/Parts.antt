@@ -9,6 +9,7 @@ use Rattle.ox_outside.proofs.Calls.{leaves_at_first, looks_none}
 use Rattle.ox_outside.proofs.Counts.{no_fault_yet, stops_after, stops_as, stops_at_none, then_rose, went_on}
 use Rattle.ox_feed.specs.declared.command.Command.{Command}
 use Rattle.ox_gated.specs.Writes.{OnlyWrites}
+use Rattle.ox_gated.specs.declared.fault.Halt.TheVariants as halts
 use Rattle.ox_gated.proofs.Writing.{writes_looking}
 use Rattle.ox_gated.specs.WritesOn.{writes_then}
 use Rattle.ox_rules.specs.declared.refusal.Refusal.{Refusal}
@@ -25,7 +26,7 @@ use Rattle.ox_drill.specs.Chain.{drill_commands, drill_start}
 use Rattle.ox_drill.specs.Drill.{Carries, Drills, DrillsInTurn, InStep, IsDrilled, Makes, MakesNone, StopsOnDisk, fault_of}
 use Rattle.ox_drill.specs.InTurn.{InTurn, after_command}
 use Rattle.ox_drill.specs.declared.fault.DrillFault.{DrillFault}
-use Rattle.ox_drill.specs.declared.fault.DrillFault.TheVariants.{DiskFault, Memory, NotEmpty}
+use Rattle.ox_drill.specs.declared.fault.DrillFault.TheVariants.{Halt, NotEmpty}
 use Rattle.ox_drill.proofs.Lists.{take_all}
 use Rattle.ox_drill.proofs.Turns.{after_more, at_most, one_turn, take_front, take_past, turns_then}
 
@@ -33,13 +34,13 @@ same_fault : {V : Type 0} (a b : DrillFault) → IsErrOf {T = V} (Err a) b → a
 same_fault a b e = cc e
 
 -- a making that ended well, and one that didn't
-pub made_well : {T : Type 0} (x : T) (old new : Counts) → StopsAtFault (IsErrOf {T = T} {E = MakeFault} (Ok x) makes.DiskFault) ⊥ ⊥ old new → StopsAtFault (IsErrOf {T = T} {E = DrillFault} (Ok x) DiskFault) ⊥ ⊥ old new
+pub made_well : {T : Type 0} (x : T) (old new : Counts) → StopsAtFault (IsErrOf {T = T} {E = MakeFault} (Ok x) (makes.Halt halts.Disk)) ⊥ ⊥ old new → StopsAtFault (IsErrOf {T = T} {E = DrillFault} (Ok x) (Halt halts.Disk)) ⊥ ⊥ old new
 made_well {T} x old new counted =
-    stops_at_none _ _ _ _ _ (went_on (IsErrOf {T = T} {E = MakeFault} (Ok x) makes.DiskFault) ⊥ ⊥ old new (λ is. cc is) (λ no. no) (λ no. no) counted)
+    stops_at_none _ _ _ _ _ (went_on (IsErrOf {T = T} {E = MakeFault} (Ok x) (makes.Halt halts.Disk)) ⊥ ⊥ old new (λ is. cc is) (λ no. no) (λ no. no) counted)
 
-pub made_not : {T : Type 0} (fault : MakeFault) (old new : Counts) → StopsAtFault (IsErrOf {T = T} (Err fault) makes.DiskFault) ⊥ ⊥ old new → StopsAtFault (fault ≡ makes.DiskFault) ⊥ ⊥ old new
+pub made_not : {T : Type 0} (fault : MakeFault) (old new : Counts) → StopsAtFault (IsErrOf {T = T} (Err fault) (makes.Halt halts.Disk)) ⊥ ⊥ old new → StopsAtFault (fault ≡ makes.Halt halts.Disk) ⊥ ⊥ old new
 made_not {T} fault old new counted =
-    stops_as (IsErrOf {T = T} (Err fault) makes.DiskFault) ⊥ ⊥ (fault ≡ makes.DiskFault) ⊥ ⊥ old new (λ e. cc e) (λ no. no) (λ no. no) counted
+    stops_as (IsErrOf {T = T} (Err fault) (makes.Halt halts.Disk)) ⊥ ⊥ (fault ≡ makes.Halt halts.Disk) ⊥ ⊥ old new (λ e. cc e) (λ no. no) (λ no. no) counted
 
 -- ---- commands
 
@@ -156,7 +157,7 @@ module _ {S : Type 0} (means : Meanings S) where
 
   -- of a part that ended well no call failed
   went : {T : Type 0} (x : T) (old new : S) → StopsOnDisk {T = T} means (Ok x) old new → NoFault (means.counts old) (means.counts new)
-  went {T} x old new stops = went_on (IsErrOf {T = T} {E = DrillFault} (Ok x) DiskFault) ⊥ ⊥ _ _ (λ is. cc is) (λ no. no) (λ no. no) stops.counted
+  went {T} x old new stops = went_on (IsErrOf {T = T} {E = DrillFault} (Ok x) (Halt halts.Disk)) ⊥ ⊥ _ _ (λ is. cc is) (λ no. no) (λ no. no) stops.counted
 
   module _ (logs_now : (site : S) (r : Remains) → means.may_leave site r → means.log site ≡ Some r.log) where
     -- no call yet
@@ -173,7 +174,7 @@ module _ {S : Type 0} (means : Meanings S) where
     stops_then {T} {U} x result old mid new one two = record {
       made = two.made;
       failed = λ is. then_rose _ _ _ one.writes.calls.none_fell.disk (two.failed is);
-      counted = stops_after (IsErrOf result DiskFault) ⊥ ⊥ _ _ _ (went x old mid one) two.counted;
+      counted = stops_after (IsErrOf result (Halt halts.Disk)) ⊥ ⊥ _ _ _ (went x old mid one) two.counted;
       writes = writes_then means logs_now old mid new one.writes two.writes;
     }
 
@@ -183,12 +184,12 @@ module _ {S : Type 0} (means : Meanings S) where
       subst (λ (r : Result U DrillFault). StopsOnDisk means r old new) (sym (is ∙ ap Err alike)) (record {
         made = λ e. one.made (ap Err (same_fault {V = U} _ _ e));
         failed = λ e. one.failed (ap Err (same_fault {V = U} _ _ e));
-        counted = stops_as (IsErrOf {T = T} (Err fault) DiskFault) ⊥ ⊥ (IsErrOf {T = U} (Err fault) DiskFault) ⊥ ⊥ _ _ (λ e. ap Err (same_fault {V = T} _ _ e)) (λ no. no) (λ no. no) one.counted;
+        counted = stops_as (IsErrOf {T = T} (Err fault) (Halt halts.Disk)) ⊥ ⊥ (IsErrOf {T = U} (Err fault) (Halt halts.Disk)) ⊥ ⊥ _ _ (λ e. ap Err (same_fault {V = T} _ _ e)) (λ no. no) (λ no. no) one.counted;
         writes = one.writes;
       })
 
   -- a part that ended well, and then want of memory
-  pub stops_short : {T U : Type 0} (x : T) (result : Result U DrillFault) (same : DrillFault) (old new : S) → result ≡ Err same → same ≡ Memory → StopsOnDisk {T = T} means (Ok x) old new → StopsOnDisk means result old new
+  pub stops_short : {T U : Type 0} (x : T) (result : Result U DrillFault) (same : DrillFault) (old new : S) → result ≡ Err same → same ≡ Halt halts.Memory → StopsOnDisk {T = T} means (Ok x) old new → StopsOnDisk means result old new
   stops_short {T} {U} x result same old new is alike one =
       subst (λ (r : Result U DrillFault). StopsOnDisk means r old new) (sym (is ∙ ap Err alike)) (record {
         made = λ e. cc e;
@@ -207,13 +208,13 @@ module _ {S : Type 0} (means : Meanings S) where
   }
 
   -- or wasn't
-  pub stops_failed : {T U E : Type 0} (answer : Result T E) (result : Result U DrillFault) (same : DrillFault) (old new : S) → result ≡ Err same → same ≡ DiskFault → Rose (means.counts old).disk (means.counts new).disk
+  pub stops_failed : {T U E : Type 0} (answer : Result T E) (result : Result U DrillFault) (same : DrillFault) (old new : S) → result ≡ Err same → same ≡ Halt halts.Disk → Rose (means.counts old).disk (means.counts new).disk
       → StopsAtFault (IsFailure answer) ⊥ ⊥ (means.counts old) (means.counts new) → OnlyWrites means old new → StopsOnDisk means result old new
   stops_failed {T} {U} answer result same old new is alike rose counted writes =
       subst (λ (r : Result U DrillFault). StopsOnDisk means r old new) (sym (is ∙ ap Err alike)) (record {
         made = λ e. cc e;
         failed = λ e. rose;
-        counted = stops_as (IsFailure answer) ⊥ ⊥ (IsErrOf {T = U} (Err DiskFault) DiskFault) ⊥ ⊥ _ _ (λ f. refl) (λ no. no) (λ no. no) counted;
+        counted = stops_as (IsFailure answer) ⊥ ⊥ (IsErrOf {T = U} (Err (Halt halts.Disk)) (Halt halts.Disk)) ⊥ ⊥ _ _ (λ f. refl) (λ no. no) (λ no. no) counted;
         writes = writes;
       })
 
@@ -258,10 +259,10 @@ module _ {S : Type 0} (means : Meanings S) where
 
   -- no store was made
   pub makes_none : (result : Result StoreContents DrillFault) (made : MakeFault) (fault : DrillFault) (old new : S) → result ≡ Err fault → fault ≡ fault_of made
-      → (IsErrOf {T = StoreContents} (Err made) makes.NotEmpty ⊎ IsErrOf {T = StoreContents} (Err made) makes.Memory → OnlyLooks means old new)
+      → (IsErrOf {T = StoreContents} (Err made) makes.NotEmpty ⊎ IsErrOf {T = StoreContents} (Err made) (makes.Halt halts.Memory) → OnlyLooks means old new)
       → (IsTrue (means.told old) → IsErrOf {T = StoreContents} (Err made) makes.NotEmpty → means.seen old ≢ no_files)
-      → (IsTrue (means.told old) → means.seen old ≢ no_files → OnlyLooks means old new) → (IsErrOf {T = StoreContents} (Err made) makes.DiskFault → Rose (means.counts old).disk (means.counts new).disk)
-      → StopsAtFault (made ≡ makes.DiskFault) ⊥ ⊥ (means.counts old) (means.counts new) → OnlyWrites means old new → Makes means result old new
+      → (IsTrue (means.told old) → means.seen old ≢ no_files → OnlyLooks means old new) → (IsErrOf {T = StoreContents} (Err made) (makes.Halt halts.Disk) → Rose (means.counts old).disk (means.counts new).disk)
+      → StopsAtFault (made ≡ makes.Halt halts.Disk) ⊥ ⊥ (means.counts old) (means.counts new) → OnlyWrites means old new → Makes means result old new
   makes_none result made fault old new is same looks filled spared rose counted writes =
       subst (λ (r : Result StoreContents DrillFault). Makes means r old new) (sym (is ∙ ap Err same)) (record {
         stack = tt;
@@ -272,20 +273,19 @@ module _ {S : Type 0} (means : Meanings S) where
         spared = spared;
         none = none made looks;
         failed = λ e. rose (ap Err (was_disk made (same_fault {V = StoreContents} _ _ e)));
-        counted = stops_as (made ≡ makes.DiskFault) ⊥ ⊥ (IsErrOf {T = StoreContents} (Err (fault_of made)) DiskFault) ⊥ ⊥ _ _ (λ e. ap (λ (f : MakeFault). Err (fault_of f)) e) (λ no. no) (λ no. no) counted;
+        counted = stops_as (made ≡ makes.Halt halts.Disk) ⊥ ⊥ (IsErrOf {T = StoreContents} (Err (fault_of made)) (Halt halts.Disk)) ⊥ ⊥ _ _ (λ e. ap (λ (f : MakeFault). Err (fault_of f)) e) (λ no. no) (λ no. no) counted;
         writes = writes;
       }) where
         was_not_empty : (f : MakeFault) → fault_of f ≡ NotEmpty → f ≡ makes.NotEmpty
         was_not_empty makes.NotEmpty e = refl
-        was_not_empty makes.DiskFault e = absurd (cc e)
-        was_not_empty makes.Memory e = absurd (cc e)
+        was_not_empty (makes.Halt halt) e = absurd (cc e)
 
-        was_disk : (f : MakeFault) → fault_of f ≡ DiskFault → f ≡ makes.DiskFault
+        was_disk : (f : MakeFault) → fault_of f ≡ Halt halts.Disk → f ≡ makes.Halt halts.Disk
         was_disk makes.NotEmpty e = absurd (cc e)
-        was_disk makes.DiskFault e = refl
-        was_disk makes.Memory e = absurd (cc e)
+        was_disk (makes.Halt halts.Disk) e = refl
+        was_disk (makes.Halt halts.Memory) e = absurd (cc e)
 
-        none : (f : MakeFault) → (IsErrOf {T = StoreContents} (Err f) makes.NotEmpty ⊎ IsErrOf {T = StoreContents} (Err f) makes.Memory → OnlyLooks means old new) → MakesNone means (fault_of f) old new
+        none : (f : MakeFault) → (IsErrOf {T = StoreContents} (Err f) makes.NotEmpty ⊎ IsErrOf {T = StoreContents} (Err f) (makes.Halt halts.Memory) → OnlyLooks means old new) → MakesNone means (fault_of f) old new
         none makes.NotEmpty looked = looked (inl refl)
-        none makes.DiskFault looked = writes
-        none makes.Memory looked = looked (inr refl)
+        none (makes.Halt halts.Disk) looked = writes
+        none (makes.Halt halts.Memory) looked = looked (inr refl)

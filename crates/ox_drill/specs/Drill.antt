@@ -7,6 +7,7 @@ use Rattle.ox_outside.specs.declared.site.Site.{Ghosts as Meanings}
 use Rattle.ox_feed.specs.declared.command.Command.{Command}
 use Rattle.ox_gated.specs.Tail.{Holds, IsSettled}
 use Rattle.ox_gated.specs.Writes.{OnlyWrites}
+use Rattle.ox_gated.specs.declared.fault.Halt.TheVariants as halts
 use Rattle.ox_model.specs.Machine.{stack_of}
 use Rattle.ox_model.specs.Replies.{after_commands_on}
 use Rattle.ox_model.specs.Stack.{Stack}
@@ -18,15 +19,14 @@ use Rattle.ox_store.specs.declared.fault.MakeFault.TheVariants as makes
 use Rattle.ox_drill.specs.Chain.{drill_commands, drill_start}
 use Rattle.ox_drill.specs.InTurn.{InTurn}
 use Rattle.ox_drill.specs.declared.fault.DrillFault.{DrillFault}
-use Rattle.ox_drill.specs.declared.fault.DrillFault.TheVariants.{NotEmpty, DiskFault, Memory}
+use Rattle.ox_drill.specs.declared.fault.DrillFault.TheVariants.{NotEmpty, Halt}
 
 -- ---- the whole
 
 -- why a drill ends whose store isn't made
 abbrev pub fault_of : MakeFault → DrillFault
 fault_of makes.NotEmpty = NotEmpty
-fault_of makes.DiskFault = DiskFault
-fault_of makes.Memory = Memory
+fault_of (makes.Halt halt) = Halt halt
 
 -- the stack to which the commands of a drill lead
 abbrev pub drill_stack : ℕ → Stack
@@ -49,8 +49,8 @@ pub record Drills {S : Type 0} (means : Meanings S) (n begun : ℕ) (old new : S
 -- no store was made: the files were only looked at, or the disk failed while they were written
 abbrev pub MakesNone : {S : Type 0} → Meanings S → DrillFault → S → S → Type 0
 MakesNone means NotEmpty old new = OnlyLooks means old new
-MakesNone means Memory old new = OnlyLooks means old new
-MakesNone means DiskFault old new = OnlyWrites means old new
+MakesNone means (Halt halts.Memory) old new = OnlyLooks means old new
+MakesNone means (Halt halts.Disk) old new = OnlyWrites means old new
 
 -- a store is in step with the files
 pub record InStep {S : Type 0} (means : Meanings S) (store : StoreContents) (site : S)
@@ -68,8 +68,10 @@ pub record Makes {S : Type 0} (means : Meanings S) (result : Result StoreContent
   pub not_empty : IsTrue (means.told old) → IsErrOf result NotEmpty → means.seen old ≢ no_files
   pub spared : IsTrue (means.told old) → means.seen old ≢ no_files → OnlyLooks means old new
   pub none : IfErr result (λ fault. MakesNone means fault old new)
-  pub failed : IsErrOf result DiskFault → Rose (means.counts old).disk (means.counts new).disk
-  pub counted : StopsAtFault (IsErrOf result DiskFault) ⊥ ⊥ (means.counts old) (means.counts new)
+  pub failed : IsErrOf result (Halt halts.Disk)
+      → Rose (means.counts old).disk (means.counts new).disk
+  pub counted : StopsAtFault (IsErrOf result (Halt halts.Disk)) ⊥ ⊥
+      (means.counts old) (means.counts new)
   pub writes : OnlyWrites means old new
 
 -- All commands were carried out in turn; or, at a fault, some first ones, or no store was made.
@@ -102,6 +104,8 @@ pub record Carries {S : Type 0} (means : Meanings S) (start : StoreContents)
 pub record StopsOnDisk {S T : Type 0} (means : Meanings S) (result : Result T DrillFault)
     (old new : S) : Type 0 where
   pub made : IsErrOf result NotEmpty → ⊥
-  pub failed : IsErrOf result DiskFault → Rose (means.counts old).disk (means.counts new).disk
-  pub counted : StopsAtFault (IsErrOf result DiskFault) ⊥ ⊥ (means.counts old) (means.counts new)
+  pub failed : IsErrOf result (Halt halts.Disk)
+      → Rose (means.counts old).disk (means.counts new).disk
+  pub counted : StopsAtFault (IsErrOf result (Halt halts.Disk)) ⊥ ⊥
+      (means.counts old) (means.counts new)
   pub writes : OnlyWrites means old new

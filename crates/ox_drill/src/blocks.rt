@@ -11,7 +11,7 @@ use ox_gen::block;
 use std::alloc::Global;
 
 /// What the block of a height stands behind.
-#[derive(Clone, Copy, Debug, PartialEq, Eq)]
+#[derive(Clone, Copy, PartialEq, Eq)]
 pub struct Behind {
     /// The height.
     pub height: u32,

@@ -10,6 +10,7 @@ ghost use Rattle.ox_drill.specs.Drill.{Carries, InStep, StopsOnDisk};
 use crate::blocks::{Behind, next_block};
 use crate::fault::DrillFault;
 use ox_feed::Command;
+use ox_gated::Halt;
 use ox_outside::Site;
 use ox_store::{Kept, Store, Why};
 use std::alloc::Global;
@@ -25,7 +26,7 @@ fn carry<S: Site>(store: Store, command: &Command, site: &mut S) -> Result<Store
         Ok(ready) => Ok(ready.commit(site)?),
         Err(Kept { store, why }) => match why {
             Why::Refused(_refusal) => Ok(store),
-            Why::Memory => Err(DrillFault::Memory),
+            Why::Memory => Err(DrillFault::Halt(Halt::Memory)),
         },
     }
 }

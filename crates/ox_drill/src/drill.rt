@@ -4,11 +4,13 @@ ghost use Rattle.std.specs.Prelude.{◌≡◌, ◌≢◌, ◌<◌, ◌^◌, IsTr
 ghost use Rattle.ox_outside.specs.Counts.{Rose, StopsAtFault};
 ghost use Rattle.ox_outside.specs.Runs.{OnlyLooks};
 ghost use Rattle.ox_gated.specs.Writes.{OnlyWrites};
+ghost use Rattle.ox_gated.specs.declared.fault.Halt.TheVariants as halts;
 ghost use Rattle.ox_store.specs.Make.{no_files};
 ghost use Rattle.ox_drill.specs.Chain.{drill_commands};
 ghost use Rattle.ox_drill.specs.Drill.{Carries, DrillsInTurn, InStep, IsDrilled, Makes};
 ghost use Rattle.ox_drill.specs.Drill.{StopsOnDisk, drill_stack};
 ghost use Rattle.ox_drill.specs.Line.{drill_line};
+ghost use Rattle.ox_drill.specs.declared.fault.DrillFault.TheVariants as faults;
 
 use crate::blocks::first_behind;
 use crate::carry::{connect_blocks, disconnect_blocks};
@@ -62,9 +64,9 @@ fn carry_all<S: Site>(
 /// a crash at any moment leaves what the first so many commands lead to. No event of a channel is
 /// logged.
 ///
-/// `NotEmpty` exactly where a file's length isn't 0, and nothing is written then; `DiskFault` only
-/// where a call on a file failed; `Memory` where there is none for the store, a block, a command or
-/// the line, and where a sum of the line passes 128 bits.
+/// `NotEmpty` exactly where a file's length isn't 0, and nothing is written then. `Halt` with
+/// `Disk` only where a call on a file failed, and with `Memory` where there is none for the store,
+/// a block, a command or the line, and where a sum of the line passes 128 bits.
 pub fn drill_store<S: Site>(alloc: Global, site: &mut S, n: u32) -> Result<Bytes, DrillFault>
     ensures line { IfOk result (λ line. line ≡ drill_line n (drill_stack n).index) }
     ensures drilled { IsTrue (S.told site.old) → OnOk result (IsDrilled S.Site n site.new) }
@@ -77,9 +79,9 @@ pub fn drill_store<S: Site>(alloc: Global, site: &mut S, n: u32) -> Result<Bytes
         → OnlyLooks S.Site site.old site.new }
     ensures wrote_nothing { IsErrOf result DrillFault.NotEmpty
         → OnlyLooks S.Site site.old site.new }
-    ensures failed { IsErrOf result DrillFault.DiskFault
+    ensures failed { IsErrOf result (faults.Halt halts.Disk)
         → Rose (S.counts site.old).disk (S.counts site.new).disk }
-    ensures counted { StopsAtFault (IsErrOf result DrillFault.DiskFault) ⊥ ⊥
+    ensures counted { StopsAtFault (IsErrOf result (faults.Halt halts.Disk)) ⊥ ⊥
         (S.counts site.old) (S.counts site.new) }
     ensures writes { OnlyWrites S.Site site.old site.new }
 {

@@ -3,7 +3,7 @@
 ghost use Rattle.std.specs.Prelude.{◌≡◌};
 
 use ox_bytes::Memory;
-use ox_gated::DiskFault;
+use ox_gated::{DiskFault, Halt};
 use ox_store::MakeFault;
 
 /// Why a drill ends before its line is made.
@@ -11,30 +11,30 @@ use ox_store::MakeFault;
 pub enum DrillFault {
     /// A file's length isn't 0. Nothing was written.
     NotEmpty,
-    /// A call on a file failed.
-    DiskFault,
-    /// There is no memory for the store, a block, a command or the line; or a sum of the line
-    /// passes 128 bits.
-    Memory,
+    /// A call on a file failed; or there is no memory for the store, a block, a command or the
+    /// line, or a sum of the line passes 128 bits.
+    Halt(Halt),
 }
 
 impl From<Memory> for DrillFault {
+    ghost use Rattle.ox_gated.specs.declared.fault.Halt.TheVariants as halts;
     ghost use Rattle.ox_drill.specs.declared.fault.DrillFault.TheVariants as faults;
 
-    ghost from_gives = { λ _ fault. fault ≡ faults.Memory };
+    ghost from_gives = { λ _ fault. fault ≡ faults.Halt halts.Memory };
 
     fn from(_memory: Memory) -> DrillFault {
-        DrillFault::Memory
+        DrillFault::Halt(Halt::Memory)
     }
 }
 
 impl From<DiskFault> for DrillFault {
+    ghost use Rattle.ox_gated.specs.declared.fault.Halt.TheVariants as halts;
     ghost use Rattle.ox_drill.specs.declared.fault.DrillFault.TheVariants as faults;
 
-    ghost from_gives = { λ _ fault. fault ≡ faults.DiskFault };
+    ghost from_gives = { λ _ fault. fault ≡ faults.Halt halts.Disk };
 
     fn from(_fault: DiskFault) -> DrillFault {
-        DrillFault::DiskFault
+        DrillFault::Halt(Halt::Disk)
     }
 }
 
@@ -46,8 +46,7 @@ impl From<MakeFault> for DrillFault {
     fn from(fault: MakeFault) -> DrillFault {
         match fault {
             MakeFault::NotEmpty => DrillFault::NotEmpty,
-            MakeFault::DiskFault => DrillFault::DiskFault,
-            MakeFault::Memory => DrillFault::Memory,
+            MakeFault::Halt(halt) => DrillFault::Halt(halt),
         }
     }
 }

@@ -13,7 +13,7 @@ use ox_model::{RuneAudit, View};
 use std::alloc::{AllocError, Global};
 
 /// What a drill counts.
-#[derive(Clone, Copy, Debug, PartialEq, Eq)]
+#[derive(Clone, Copy, PartialEq, Eq)]
 pub struct Counts {
     /// How many satoshis the blocks could claim.
     pub claimable: u64,

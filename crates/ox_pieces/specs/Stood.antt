@@ -1,11 +1,10 @@
 -- What two files of version 2 hand out, where a store stands that has them, and the rules by which
 -- it goes on.
-use Rattle.std.specs.Prelude.{ℕ, ◌==◌, List, map, Option, None, Result, Ok, Err, if◌then◌else◌}
+use Rattle.std.specs.Prelude.{ℕ, List, map, Option, None, Result, Ok, Err}
 use Rattle.std.specs.Option.{option_map}
 use Rattle.std.specs.Result.{result_ok}
 use Rattle.ox_outside.specs.Files.{Files}
-use Rattle.ox_gated.specs.Layout.{version_at}
-use Rattle.ox_gated.specs.Reading.{Found, Fault, fault_at, is_present, reading}
+use Rattle.ox_gated.specs.Reading.{Found, Fault, is_led, reading}
 use Rattle.ox_gated.specs.declared.head.Head.{Head}
 use Rattle.ox_gated.specs.declared.records.Record.{Record}
 use Rattle.ox_model.specs.Stack.{Stack}
@@ -16,15 +15,9 @@ use Rattle.ox_follow.specs.World.{Leader, Rules, Stood, stood}
 
 -- ---- files
 
--- a file of another version is at fault there, once its parts are read
-abbrev pub led_found : Result Found Fault → Result Found Fault
-led_found (Err fault) = Err fault
-led_found (Ok found) =
-    if found.head.version == 2 then Ok found else fault_at found.file version_at
-
--- what is read of two files
+-- what is read of two files: a current one of another version is at fault there
 abbrev pub led_reading : Files → Result Found Fault
-led_reading files = led_found (reading is_present files)
+led_reading files = reading is_led files
 
 -- the stack that they stand for, or the file and the place of the first test that fails
 abbrev pub led_stands : Files → Result Stack Misfit

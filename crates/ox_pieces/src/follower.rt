@@ -5,8 +5,10 @@ ghost use Rattle.ox_outside.specs.Counts.{Rose, StopsAtFault};
 ghost use Rattle.ox_outside.specs.Runs.{OnlyLooks};
 ghost use Rattle.ox_gated.specs.Layout.{is_lawful};
 ghost use Rattle.ox_gated.specs.Tail.{Holds, IsSettled};
+ghost use Rattle.ox_gated.specs.declared.fault.Halt.TheVariants as halts;
 ghost use Rattle.ox_files.specs.Stands.{stack_in_file};
 ghost use Rattle.ox_store.specs.Fault.{IsMisfit};
+ghost use Rattle.ox_store.specs.declared.fault.OpenFault.TheVariants as opens;
 ghost use Rattle.ox_pieces.specs.Stood.{led_stands};
 ghost use Rattle.ox_pieces.specs.Follower.{position_of};
 
@@ -93,8 +95,9 @@ impl Follower {
     /// does a crash leave anything that it didn't leave before.
     ///
     /// `NotStore` exactly where the files stand for nothing, with the file and the place of the
-    /// first test that fails, or have version 3, with the place 6; `DiskFault` only where a call on
-    /// a file failed; `Memory` where there is none for what the files hold.
+    /// first test that fails: 6 where the current file has another version, of which nothing more
+    /// is read. `Halt` with `Disk` only where a call on a file failed, and with `Memory` where
+    /// there is none for what the files hold.
     pub fn open<S: Site>(alloc: Global, site: &mut S) -> Result<Follower, OpenFault>
         ensures stood { IsTrue (S.told site.old)
             → IfOk result (λ follower. stood_in (S.seen site.old) ≡ Some follower.mine) }
@@ -102,12 +105,12 @@ impl Follower {
             → IfOk result (λ follower. Holds S.Site follower.tail site.new) }
         ensures not_store { IsTrue (S.told site.old)
             → IfErr result (IsMisfit (led_stands (S.seen site.old))) }
-        ensures failed { IsErrOf result OpenFault.DiskFault
+        ensures failed { IsErrOf result (opens.Halt halts.Disk)
             → Rose (S.counts site.old).disk (S.counts site.new).disk }
-        ensures counted { StopsAtFault (IsErrOf result OpenFault.DiskFault) ⊥ ⊥
+        ensures counted { StopsAtFault (IsErrOf result (opens.Halt halts.Disk)) ⊥ ⊥
             (S.counts site.old) (S.counts site.new) }
         // Each crash leaves what is read, unless a call failed.
-        ensures settled { ¬ IsErrOf result OpenFault.DiskFault → IsSettled S.Site site.new }
+        ensures settled { ¬ IsErrOf result (opens.Halt halts.Disk) → IsSettled S.Site site.new }
         ensures looks { OnlyLooks S.Site site.old site.new }
     {
         match open_files(alloc, site) {

@@ -7,15 +7,17 @@ ghost use Rattle.ox_outside.specs.Counts.{Rose, StopsAtFault};
 ghost use Rattle.ox_outside.specs.Runs.{OnlyLooks};
 ghost use Rattle.ox_gated.specs.Layout.{is_lawful};
 ghost use Rattle.ox_gated.specs.Tail.{IsSettled};
+ghost use Rattle.ox_gated.specs.declared.fault.Halt.TheVariants as halts;
 ghost use Rattle.ox_files.specs.Stands.{stack_in_file};
 ghost use Rattle.ox_store.specs.Fault.{IsMisfit};
+ghost use Rattle.ox_store.specs.declared.fault.OpenFault.TheVariants as opens;
 ghost use Rattle.ox_pieces.specs.Stood.{leader_of as leader_as, led_stands};
 
 use crate::open::{Current, open_files};
 use crate::writing::LONGEST;
 use ox_bytes::Bytes;
 use ox_follow::{Frame, Position};
-use ox_gated::{Head, Records};
+use ox_gated::{Halt, Head, Records};
 use ox_outside::Site;
 use ox_store::OpenFault;
 use std::alloc::Global;
@@ -58,20 +60,21 @@ impl Leader {
     /// it didn't leave before.
     ///
     /// `NotStore` exactly where the files stand for nothing, with the file and the place of the
-    /// first test that fails, or have version 3, with the place 6; `DiskFault` only where a call on
-    /// a file failed; `Memory` where there is none for what the files hold, and where the body is
-    /// 2^32 bytes or longer, which no store writes.
+    /// first test that fails: 6 where the current file has another version, of which nothing more
+    /// is read. `Halt` with `Disk` only where a call on a file failed, and with `Memory` where
+    /// there is none for what the files hold, and where the body is 2^32 bytes or longer, which no
+    /// store writes.
     pub fn open<S: Site>(alloc: Global, site: &mut S) -> Result<Leader, OpenFault>
         ensures leads { IsTrue (S.told site.old)
             → IfOk result (λ leader. leader_in (S.seen site.old) ≡ Some leader) }
         ensures not_store { IsTrue (S.told site.old)
             → IfErr result (IsMisfit (led_stands (S.seen site.old))) }
-        ensures failed { IsErrOf result OpenFault.DiskFault
+        ensures failed { IsErrOf result (opens.Halt halts.Disk)
             → Rose (S.counts site.old).disk (S.counts site.new).disk }
-        ensures counted { StopsAtFault (IsErrOf result OpenFault.DiskFault) ⊥ ⊥
+        ensures counted { StopsAtFault (IsErrOf result (opens.Halt halts.Disk)) ⊥ ⊥
             (S.counts site.old) (S.counts site.new) }
         // Each crash leaves what is read, unless a call failed.
-        ensures settled { ¬ IsErrOf result OpenFault.DiskFault → IsSettled S.Site site.new }
+        ensures settled { ¬ IsErrOf result (opens.Halt halts.Disk) → IsSettled S.Site site.new }
         ensures looks { OnlyLooks S.Site site.old site.new }
     {
         match open_files(alloc, site) {
@@ -153,14 +156,14 @@ fn leader_of(current: Current) -> Result<Leader, OpenFault>
     requires lawful { IsTrue (is_lawful current.opened.head) }
     ensures leads { let o = current.opened in
         IfOk result (λ leader. leader ≡ leader_as o.head o.body o.records current.standing) }
-    ensures memory { IfErr result (λ fault. fault ≡ OpenFault.Memory) }
+    ensures memory { IfErr result (λ fault. fault ≡ opens.Halt halts.Memory) }
 {
     let Current {
         opened,
         standing: _,
     } = current;
     if opened.body.len() > LONGEST || !are_short(&opened.records) {
-        return Err(OpenFault::Memory);
+        return Err(OpenFault::Halt(Halt::Memory));
     }
     Ok(Leader {
         head: opened.head,

@@ -6,9 +6,11 @@ ghost use Rattle.ox_outside.specs.Runs.{OnlyLooks};
 ghost use Rattle.ox_gated.specs.Layout.{is_lawful};
 ghost use Rattle.ox_gated.specs.Opened.{found_of};
 ghost use Rattle.ox_gated.specs.Tail.{Holds, IsSettled};
+ghost use Rattle.ox_gated.specs.declared.fault.Halt.TheVariants as halts;
 ghost use Rattle.ox_files.specs.Stands.{stack_in, stack_in_file};
 ghost use Rattle.ox_store.specs.Fault.{IsMisfit};
-ghost use Rattle.ox_pieces.specs.Stood.{led_found, led_reading, led_stands};
+ghost use Rattle.ox_store.specs.declared.fault.OpenFault.TheVariants as opens;
+ghost use Rattle.ox_pieces.specs.Stood.{led_reading, led_stands};
 
 use ox_checkpoint::{Standing, stand};
 use ox_gated::{Opened, Tail};
@@ -36,11 +38,11 @@ pub(crate) fn open_files<S: Site>(alloc: Global, site: &mut S) -> Result<Current
         → IfOk result (λ c. Holds S.Site c.opened.tail site.new) }
     ensures not_store { IsTrue (S.told site.old)
         → IfErr result (IsMisfit (led_stands (S.seen site.old))) }
-    ensures failed { IsErrOf result OpenFault.DiskFault
+    ensures failed { IsErrOf result (opens.Halt halts.Disk)
         → Rose (S.counts site.old).disk (S.counts site.new).disk }
-    ensures counted { StopsAtFault (IsErrOf result OpenFault.DiskFault) ⊥ ⊥
+    ensures counted { StopsAtFault (IsErrOf result (opens.Halt halts.Disk)) ⊥ ⊥
         (S.counts site.old) (S.counts site.new) }
-    ensures settled { ¬ IsErrOf result OpenFault.DiskFault → IsSettled S.Site site.new }
+    ensures settled { ¬ IsErrOf result (opens.Halt halts.Disk) → IsSettled S.Site site.new }
     ensures looks { OnlyLooks S.Site site.old site.new }
 {
     match Tail::open(alloc, site) {
@@ -49,30 +51,15 @@ pub(crate) fn open_files<S: Site>(alloc: Global, site: &mut S) -> Result<Current
     }
 }
 
-/// The version whose pieces are handed out and taken.
-const LED: u8 = 2;
-
-/// Where a file tells its version.
-const VERSION_AT: u64 = 6;
-
-/// What files that were read stand for, where their version is 2.
+/// What files that were read stand for.
 fn judged(alloc: Global, opened: Opened) -> Result<Current, OpenFault>
     requires { IsTrue (is_lawful opened.head) }
     ensures opened { IfOk result (λ c. c.opened ≡ opened) }
-    ensures led { IfOk result (λ c.
-        (led_found (Ok (found_of opened)) ≡ Ok (found_of c.opened))
-        × (c.opened.head.version ≡ 2)) }
     ensures stack { IfOk result (λ c.
         stack_in_file opened.head opened.body opened.records ≡ Ok c.standing) }
-    ensures misfit { IfErr result (IsMisfit (stack_in (led_found (Ok (found_of opened))))) }
-    ensures not_disk { IsErrOf result OpenFault.DiskFault → ⊥ }
+    ensures misfit { IfErr result (IsMisfit (stack_in (Ok (found_of opened)))) }
+    ensures not_disk { IsErrOf result (opens.Halt halts.Disk) → ⊥ }
 {
-    if opened.head.version != LED {
-        return Err(OpenFault::NotStore {
-            file: opened.file,
-            at: VERSION_AT,
-        });
-    }
     match stand(alloc, &opened.head, &opened.body, &opened.records) {
         Ok(standing) => Ok(Current { opened, standing }),
         Err(unjudged) => Err(OpenFault::in_file(opened.file, unjudged)),

@@ -5,6 +5,7 @@ use crate::say::{print_hex, print_hex_line, say, sum_of};
 use crate::words::NO_ROW;
 use ox_bytes::Bytes;
 use ox_checkpoint::put_body;
+use ox_gated::Halt;
 use ox_model::{Place, Refusal, View};
 use ox_outside::Which;
 use ox_store::{MakeFault, MigrateFault, OpenFault, Store};
@@ -93,12 +94,19 @@ pub fn print_store(rt: &impl Print, alloc: Global, store: &Store) -> io::Result<
     print_tip(rt, tip_of(store))
 }
 
+/// Why a call ended before its work was done.
+fn print_halt(rt: &impl Print, halt: Halt) -> io::Result<()> {
+    match halt {
+        Halt::Disk => say(rt, "a call failed"),
+        Halt::Memory => say(rt, "no memory"),
+    }
+}
+
 /// Why files aren't made a store.
 pub fn print_unmade(rt: &impl Print, fault: MakeFault) -> io::Result<()> {
     match fault {
         MakeFault::NotEmpty => say(rt, "not empty"),
-        MakeFault::DiskFault => say(rt, "a call failed"),
-        MakeFault::Memory => say(rt, "no memory"),
+        MakeFault::Halt(halt) => print_halt(rt, halt),
     }
 }
 
@@ -115,8 +123,7 @@ fn print_not_store(rt: &impl Print, file: Which, at: u64) -> io::Result<()> {
 pub fn print_unopened(rt: &impl Print, fault: OpenFault) -> io::Result<()> {
     match fault {
         OpenFault::NotStore { file, at } => print_not_store(rt, file, at),
-        OpenFault::DiskFault => say(rt, "a call failed"),
-        OpenFault::Memory => say(rt, "no memory"),
+        OpenFault::Halt(halt) => print_halt(rt, halt),
     }
 }
 
@@ -139,8 +146,7 @@ pub fn print_unmigrated(rt: &impl Print, alloc: Global, fault: &MigrateFault) ->
             print!(rt; "old {command} ")?;
             print_refusal(rt, alloc, refusal)
         }
-        MigrateFault::DiskFault => say(rt, "a call failed"),
-        MigrateFault::Memory => say(rt, "no memory"),
+        MigrateFault::Halt(halt) => print_halt(rt, *halt),
     }
 }
 

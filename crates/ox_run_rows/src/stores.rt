@@ -2,6 +2,7 @@
 //!
 //! - `make PROFILE DEPTH COMMAND..`: makes the files a store, and carries commands out on it;
 //! - `open COMMAND..`: opens the store, and carries commands out on it;
+//! - `pieces SIZE`: opens the store, a body of version 3 in pieces of at most so many bytes;
 //! - `reopen MOMENT FILL KEEP`: opens what such a crash as `crash` has it would leave; the files
 //!   themselves stay;
 //! - `migrate`: makes a store of version 1 one of version 2;
@@ -16,9 +17,9 @@ use crate::carry::carry_out_all;
 use crate::runs::site_after_crash;
 use crate::say::say;
 use crate::say_store::{
-    print_migrated, print_place, print_unmade, print_unmigrated, print_unopened,
+    print_migrated, print_place, print_store, print_unmade, print_unmigrated, print_unopened,
 };
-use crate::words::{NO_ROW, commands_of, depth_of, number_of, profile_of};
+use crate::words::{NO_ROW, commands_of, depth_of, number_of, profile_of, size_of};
 use ox_feed::Command;
 use ox_memsite::MemSite;
 use ox_model::View;
@@ -86,6 +87,22 @@ fn open_by(rt: &impl Print, alloc: Global, site: &mut MemSite, words: &[&str]) -
     }
 }
 
+/// Opens the store, a body of version 3 in pieces of at most so many bytes.
+fn open_in_pieces(
+    rt: &impl Print,
+    alloc: Global,
+    site: &mut MemSite,
+    most: &str,
+) -> io::Result<()> {
+    let Some(most) = size_of(most) else {
+        return say(rt, NO_ROW);
+    };
+    match Store::open_in_pieces(alloc, site, most) {
+        Ok(store) => print_store(rt, alloc, &store),
+        Err(fault) => print_unopened(rt, fault),
+    }
+}
+
 /// Opens what a crash leaves.
 fn reopen(rt: &impl Print, alloc: Global, site: &MemSite, choice: [&str; 3]) -> io::Result<()> {
     match site_after_crash(site, choice) {
@@ -131,6 +148,7 @@ pub fn tell_store(
     match row {
         ["make", profile, depth, words @ ..] => make_by(rt, alloc, site, profile, depth, words),
         ["open", words @ ..] => open_by(rt, alloc, site, words),
+        ["pieces", most] => open_in_pieces(rt, alloc, site, most),
         ["reopen", moment, fill, keep] => reopen(rt, alloc, site, [moment, fill, keep]),
         ["migrate"] => migrate(rt, alloc, site),
         ["locate", words @ ..] => locate(rt, alloc, site, words),

@@ -24,6 +24,17 @@ pub fn byte_of(word: &str) -> Option<u8> {
     word.parse().ok()
 }
 
+/// How many bytes a word's number is, if there are some.
+pub fn size_of(word: &str) -> Option<usize>
+    ensures { IfSome result (λ size. 1 ≤ size) }
+{
+    let size: usize = word.parse().ok()?;
+    if size == 0 {
+        return None;
+    }
+    Some(size)
+}
+
 /// The depth that a word's number is.
 pub fn depth_of(word: &str) -> Option<u16>
     ensures { IfSome result (λ depth. (1 ≤ depth) × (depth ≤ 1000)) }

@@ -5,11 +5,11 @@ use Rattle.ox_outside.specs.Log.{Grows}
 use Rattle.ox_feed.specs.Feed.{Feed, bytes_left}
 use Rattle.ox_app.proofs.FeedAnswers.{carried_none, grows_broken, grows_carried}
 use Rattle.ox_app.proofs.Crashes.{grows_owing_store, grows_stopped_store, grows_stops, same_stop, grows_whole_store, holds_on, stands_on, survived_line, survived_none, survived_shown}
-use Rattle.ox_app.specs.declared.stop.Stop.TheVariants.{Memory}
 use Rattle.ox_app.specs.declared.stop.Stop.TheVariants as stops
 use Rattle.ox_app.proofs.FeedState.{HasAnswered}
 use Rattle.ox_outside.proofs.Calls.{calls_then, no_call}
 use Rattle.ox_outside.proofs.Counts.{no_fault_then, no_fault_yet, stops_at_none, then_rose}
+use Rattle.ox_gated.specs.declared.fault.Halt.TheVariants as halts
 use Rattle.ox_app.proofs.Stops.{all_shown, part_stops, part_went, show_stops, stopped_as, stops_apart, unstopped}
 use Rattle.ox_app.proofs.apply.answer_feed.Goals as goal
 
@@ -45,7 +45,7 @@ returns-in_err-carried g c = record {
       grows_stops c.args.store.stack c.loop-lines.lines c.next_carried.new.lines c.loop-lines.store.stack c.in_err-carried.field-0.0
       (g.S.Site.seen c.next_carried.new.site)
       (g.S.Site.log c.args.site.now) (g.S.Site.log c.loop-lines.site) (g.S.Site.log c.next_carried.new.site)
-      (c.in_err-carried.ensures.out_of_memory (kept.1.as_told ∙ told) (kept.3 told stood) (ap Err (same_stop c.in_err-carried.field-0.0 Memory (rw (p.1, p.2) at is))))
+      (c.in_err-carried.ensures.out_of_memory (kept.1.as_told ∙ told) (kept.3 told stood) (ap Err (same_stop c.in_err-carried.field-0.0 (stops.Halt halts.Memory) (rw (p.1, p.2) at is))))
       kept.0 c.in_err-carried.ensures.told;
   hear_fault = λ is.
       let p = err_from_is_err_and c.from_residual.result c.from_residual.ensures.1 in
@@ -59,10 +59,10 @@ returns-in_err-carried g c = record {
       let p = err_from_is_err_and c.from_residual.result c.from_residual.ensures.1 in
       let counts = g.S.Site.counts in
       then_rose (counts c.args.site.now).disk (counts c.loop-lines.site).disk (counts c.next_carried.new.site).disk (c.loop-lines.invariant.1.none_fell.disk)
-      (c.in_err-carried.ensures.disk_fault (ap Err (stopped_as c.from_residual.result c.in_err-carried.field-0.0 stops.DiskFault (p.1 ∙ ap Err p.2) is)));
+      (c.in_err-carried.ensures.disk_fault (ap Err (stopped_as c.from_residual.result c.in_err-carried.field-0.0 (stops.Halt halts.Disk) (p.1 ∙ ap Err p.2) is)));
   settled = λ told is.
       let p = err_from_is_err_and c.from_residual.result c.from_residual.ensures.1 in
-      c.in_err-carried.ensures.settled (c.loop-lines.invariant.1.as_told ∙ told) (ap Err (same_stop c.in_err-carried.field-0.0 Memory (rw (p.1, p.2) at is)));
+      c.in_err-carried.ensures.settled (c.loop-lines.invariant.1.as_told ∙ told) (ap Err (same_stop c.in_err-carried.field-0.0 (stops.Halt halts.Memory) (rw (p.1, p.2) at is)));
   counted =
       let p = err_from_is_err_and c.from_residual.result c.from_residual.ensures.1 in
       part_stops c.from_residual.result c.in_err-carried.field-0.0 _ _ _ (p.1 ∙ ap Err p.2) c.loop-lines.invariant.6 c.in_err-carried.ensures.counted;
@@ -100,7 +100,7 @@ returns-in_err-show_all g c = record {
       holds.settled stands talks;
   out_of_memory = λ told stood is.
       let p = err_from_is_err_and c.from_residual-in_err-show_all.result c.from_residual-in_err-show_all.ensures.1 in
-      absurd (stops_apart stops.ShowFault stops.Memory refl (stopped_as c.from_residual-in_err-show_all.result stops.ShowFault stops.Memory (p.1 ∙ ap Err p.2) is));
+      absurd (stops_apart stops.ShowFault (stops.Halt halts.Memory) refl (stopped_as c.from_residual-in_err-show_all.result stops.ShowFault (stops.Halt halts.Memory) (p.1 ∙ ap Err p.2) is));
   hear_fault = λ is.
       let p = err_from_is_err_and c.from_residual-in_err-show_all.result c.from_residual-in_err-show_all.ensures.1 in
       absurd (stops_apart stops.ShowFault stops.HearFault refl (stopped_as c.from_residual-in_err-show_all.result stops.ShowFault stops.HearFault (p.1 ∙ ap Err p.2) is));
@@ -111,10 +111,10 @@ returns-in_err-show_all g c = record {
       (so_far.none_fell.show 0) c.in_err-show_all.ensures.failed;
   disk_fault = λ is.
       let p = err_from_is_err_and c.from_residual-in_err-show_all.result c.from_residual-in_err-show_all.ensures.1 in
-      absurd (stops_apart stops.ShowFault stops.DiskFault refl (stopped_as c.from_residual-in_err-show_all.result stops.ShowFault stops.DiskFault (p.1 ∙ ap Err p.2) is));
+      absurd (stops_apart stops.ShowFault (stops.Halt halts.Disk) refl (stopped_as c.from_residual-in_err-show_all.result stops.ShowFault (stops.Halt halts.Disk) (p.1 ∙ ap Err p.2) is));
   settled = λ told is.
       let p = err_from_is_err_and c.from_residual-in_err-show_all.result c.from_residual-in_err-show_all.ensures.1 in
-      absurd (stops_apart stops.ShowFault stops.Memory refl (stopped_as c.from_residual-in_err-show_all.result stops.ShowFault stops.Memory (p.1 ∙ ap Err p.2) is));
+      absurd (stops_apart stops.ShowFault (stops.Halt halts.Memory) refl (stopped_as c.from_residual-in_err-show_all.result stops.ShowFault (stops.Halt halts.Memory) (p.1 ∙ ap Err p.2) is));
   counted =
       let p = err_from_is_err_and c.from_residual-in_err-show_all.result c.from_residual-in_err-show_all.ensures.1 in
       show_stops c.show_all.result c.from_residual-in_err-show_all.result _ _ _ (p.1 ∙ ap Err p.2)
@@ -168,11 +168,11 @@ returns g c = record {
       let kept = c.loop-lines.invariant in
       survived_line g.S.Site c.args.store.stack c.loop-lines.lines c.next_carried.new.lines c.loop-lines.store.stack
       c.args.site.now c.loop-lines.site c.next_carried.new.site (kept.4 told stood) kept.0 (c.next_carried.ensures.during (kept.1.as_told ∙ told) (kept.3 told stood));
-  out_of_memory = λ told stood is. absurd (unstopped stops.Memory is);
+  out_of_memory = λ told stood is. absurd (unstopped (stops.Halt halts.Memory) is);
   hear_fault = λ is. absurd (unstopped stops.HearFault is);
   show_fault = λ is. absurd (unstopped stops.ShowFault is);
-  disk_fault = λ is. absurd (unstopped stops.DiskFault is);
-  settled = λ told is. absurd (unstopped stops.Memory is);
+  disk_fault = λ is. absurd (unstopped (stops.Halt halts.Disk) is);
+  settled = λ told is. absurd (unstopped (stops.Halt halts.Memory) is);
   counted = stops_at_none _ _ _ _ _ (no_fault_then _ _ _ c.loop-lines.invariant.6 (part_went _ _ _ c.in_ok-carried.ensures.counted));
   calls = calls_then g.S.Site c.args.site.now c.loop-lines.site c.next_carried.new.site c.loop-lines.invariant.1 c.next_carried.ensures.calls;
 }

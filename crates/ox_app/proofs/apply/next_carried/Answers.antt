@@ -16,6 +16,7 @@ use Rattle.ox_app.specs.declared.carry.CarriedLine.{CarriedLine}
 use Rattle.ox_app.specs.declared.stop.Stop.{Stop}
 use Rattle.ox_app.specs.declared.stop.Stop.TheVariants as stops
 use Rattle.ox_feed.proofs.HearingsInTurn.{hearing_worked}
+use Rattle.ox_gated.specs.declared.fault.Halt.TheVariants as halts
 use Rattle.ox_files.specs.Stands.{stands}
 use Rattle.ox_app.proofs.Crashes.{during_carried, during_heard, grows_line, grows_no_line, stands_on}
 use Rattle.ox_app.proofs.Settled.{settled_looking, settled_talking}
@@ -32,17 +33,17 @@ record StopsAtTwo {T : Type 0} (result : Result T Stop) : Type 0 where
   show : IsErrOf result stops.ShowFault → ⊥
   much : IsErrOf result stops.TooMuch → ⊥
 
-two_stops : {T : Type 0} (result : Result T Stop) → IfErr result (λ stop. (stop ≡ stops.DiskFault) ⊎ (stop ≡ stops.Memory)) → StopsAtTwo result
+two_stops : {T : Type 0} (result : Result T Stop) → IfErr result (λ stop. (stop ≡ stops.Halt halts.Disk) ⊎ (stop ≡ stops.Halt halts.Memory)) → StopsAtTwo result
 two_stops (Ok x) none = record { hear = λ e. cc e; show = λ e. cc e; much = λ e. cc e }
 two_stops (Err stop) (inl is) = record {
-  hear = λ e. let same : stop ≡ stops.HearFault = cc e in let other : stops.DiskFault ≡ stops.HearFault = sym is ∙ same in cc other;
-  show = λ e. let same : stop ≡ stops.ShowFault = cc e in let other : stops.DiskFault ≡ stops.ShowFault = sym is ∙ same in cc other;
-  much = λ e. let same : stop ≡ stops.TooMuch = cc e in let other : stops.DiskFault ≡ stops.TooMuch = sym is ∙ same in cc other;
+  hear = λ e. let same : stop ≡ stops.HearFault = cc e in let other : stops.Halt halts.Disk ≡ stops.HearFault = sym is ∙ same in cc other;
+  show = λ e. let same : stop ≡ stops.ShowFault = cc e in let other : stops.Halt halts.Disk ≡ stops.ShowFault = sym is ∙ same in cc other;
+  much = λ e. let same : stop ≡ stops.TooMuch = cc e in let other : stops.Halt halts.Disk ≡ stops.TooMuch = sym is ∙ same in cc other;
 }
 two_stops (Err stop) (inr is) = record {
-  hear = λ e. let same : stop ≡ stops.HearFault = cc e in let other : stops.Memory ≡ stops.HearFault = sym is ∙ same in cc other;
-  show = λ e. let same : stop ≡ stops.ShowFault = cc e in let other : stops.Memory ≡ stops.ShowFault = sym is ∙ same in cc other;
-  much = λ e. let same : stop ≡ stops.TooMuch = cc e in let other : stops.Memory ≡ stops.TooMuch = sym is ∙ same in cc other;
+  hear = λ e. let same : stop ≡ stops.HearFault = cc e in let other : stops.Halt halts.Memory ≡ stops.HearFault = sym is ∙ same in cc other;
+  show = λ e. let same : stop ≡ stops.ShowFault = cc e in let other : stops.Halt halts.Memory ≡ stops.ShowFault = sym is ∙ same in cc other;
+  much = λ e. let same : stop ≡ stops.TooMuch = cc e in let other : stops.Halt halts.Memory ≡ stops.TooMuch = sym is ∙ same in cc other;
 }
 
 -- a line that was answered isn't the end
@@ -55,7 +56,7 @@ fewer_carried line stack (Err stop) L out fewer = tt
 
 -- why the lines stop
 record StopsFeed (fault : FeedFault) : Type 0 where
-  disk : stop_of fault ≡ stops.DiskFault → ⊥
+  disk : stop_of fault ≡ stops.Halt halts.Disk → ⊥
   hear : stop_of fault ≡ stops.HearFault → fault ≡ feeds.HearFault
   show : stop_of fault ≡ stops.ShowFault → ⊥
   much : stop_of fault ≡ stops.TooMuch → fault ≡ feeds.TooMuch
@@ -131,7 +132,7 @@ returns-in_err-line g c = record {
       c.in_err-line.ensures.hear_fault (ap Err ((stops_feed c.in_err-line.field-0.0).hear (stopped_as c.from_residual.result (stop_of c.in_err-line.field-0.0) stops.HearFault (p.1 ∙ ap Err p.2) is)));
   disk_fault = λ is.
       let p = err_from_is_err_and c.from_residual.result c.from_residual.ensures.1 in
-      absurd ((stops_feed c.in_err-line.field-0.0).disk (stopped_as c.from_residual.result (stop_of c.in_err-line.field-0.0) stops.DiskFault (p.1 ∙ ap Err p.2) is));
+      absurd ((stops_feed c.in_err-line.field-0.0).disk (stopped_as c.from_residual.result (stop_of c.in_err-line.field-0.0) (stops.Halt halts.Disk) (p.1 ∙ ap Err p.2) is));
   no_show_fault = λ is.
       let p = err_from_is_err_and c.from_residual.result c.from_residual.ensures.1 in
       (stops_feed c.in_err-line.field-0.0).show (stopped_as c.from_residual.result (stop_of c.in_err-line.field-0.0) stops.ShowFault (p.1 ∙ ap Err p.2) is);

@@ -2,6 +2,7 @@ use Rattle.std.proofs.Common.{◌≡◌, ◌∙◌, ◌≤◌, ℕ, ap, arith, r
 use Rattle.std.specs.Prelude.{Err, IsErrOf, Result}
 use Rattle.ox_outside.specs.Counts.{IsFailure}
 use Rattle.ox_outside.proofs.Counts.{stops_as, stops_at_none}
+use Rattle.ox_gated.specs.declared.fault.Halt.TheVariants as halts
 use Rattle.ox_index.proofs.Tips.{tip_says}
 use Rattle.ox_rules.specs.Text.{tip_line}
 use Rattle.ox_app.specs.declared.carry.CarriedLine.{CarriedLine}
@@ -22,14 +23,14 @@ returns-in-Ok g c = record {
   stands = c.in-Ok.ensures.stands;
   any_moment = c.commit.ensures.any_moment;
   stops = tt;
-  failed = λ is. absurd (unstopped stops.DiskFault is);
+  failed = λ is. absurd (unstopped (stops.Halt halts.Disk) is);
   counted = stops_at_none _ _ _ _ _ (all_shown _ _ c.in-Ok.ensures.counted);
   writes = c.commit.ensures.writes;
 }
 
 pub returns-in-Err : goal.returns-in-Err
 returns-in-Err g c =
-    let failed : Result CarriedLine Stop = Err stops.DiskFault in
+    let failed : Result CarriedLine Stop = Err (stops.Halt halts.Disk) in
     record {
       answer = tt;
       leads = tt;
@@ -40,7 +41,7 @@ returns-in-Err g c =
       stops = refl;
       failed = λ is. c.in-Err.ensures.failed;
       counted =
-          stops_as (IsFailure c.commit.result) ⊥ ⊥ (IsErrOf failed stops.DiskFault) (IsErrOf failed stops.HearFault) (IsErrOf failed stops.ShowFault) _ _
+          stops_as (IsFailure c.commit.result) ⊥ ⊥ (IsErrOf failed (stops.Halt halts.Disk)) (IsErrOf failed stops.HearFault) (IsErrOf failed stops.ShowFault) _ _
           (λ is. refl) (λ no. absurd no) (λ no. absurd no) c.commit.ensures.counted;
       writes = c.commit.ensures.writes;
     }

@@ -2,6 +2,7 @@ use Rattle.std.proofs.Common.{◌∙◌, ⊎_elim, ℕ, List, ap, inl, inr, refl
 use Rattle.std.specs.Prelude.{Err}
 use Rattle.ox_outside.proofs.Calls.{calls_then}
 use Rattle.ox_outside.proofs.Counts.{stops_at_none, then_rose}
+use Rattle.ox_gated.specs.declared.fault.Halt.TheVariants as halts
 use Rattle.ox_drill.specs.Drill.{DrillsInTurn}
 use Rattle.ox_drill.specs.declared.fault.DrillFault.{DrillFault}
 use Rattle.ox_drill.specs.declared.fault.DrillFault.TheVariants as drills
@@ -52,29 +53,29 @@ returns-in-Err-NotEmpty g c = record {
   calls = calls_then g.S.Site c.args.site.now c.drill_store.new.site c.say.new.site c.drill_store.ensures.writes.calls c.say.ensures.talks.calls;
 }
 
-pub returns-in-Err-DiskFault : goal.returns-in-Err-DiskFault
-returns-in-Err-DiskFault g c = record {
+pub returns-in-Err-Halt-Disk : goal.returns-in-Err-Halt-Disk
+returns-in-Err-Halt-Disk g c = record {
   shows = λ isnt. reply_none (told_line c.args.n) ends.DiskFault (g.S.Site.log c.args.site.now) (g.S.Site.log c.drill_store.new.site) (ends_apart ends.DiskFault ends.Done refl) c.drill_store.ensures.writes.as_logged;
   runs = λ told.
-      drill_stopped g.S.Site g.met.S.Site.only_now g.met.S.Site.logs_now drills.DiskFault c.args.n c.args.site.now c.drill_store.new.site
-      (subst (λ (f : DrillFault). DrillsInTurn {T = List ℕ} g.S.Site c.args.n (Err f) c.args.site.now c.drill_store.new.site) c.in-Err-DiskFault.field-0-is (c.in-Err-DiskFault.ensures.in_turn told))
+      drill_stopped g.S.Site g.met.S.Site.only_now g.met.S.Site.logs_now (drills.Halt halts.Disk) c.args.n c.args.site.now c.drill_store.new.site
+      (subst (λ (f : DrillFault). DrillsInTurn {T = List ℕ} g.S.Site c.args.n (Err f) c.args.site.now c.drill_store.new.site) (c.in-Err-Halt-Disk.field-0-is ∙ ap drills.Halt c.in-Err-Halt-Disk.field-0-0-is) (c.in-Err-Halt-Disk.ensures.in_turn told))
       c.drill_store.ensures.writes (c.drill_store.ensures.spared told);
   not_empty = λ is. absurd (ends_apart ends.DiskFault ends.NotEmpty refl is);
   only_files = λ told is. absurd (ends_apart ends.DiskFault ends.NotEmpty refl is);
   looks = λ is. absurd (ends_apart ends.DiskFault ends.NotEmpty refl is);
   status = inr (inr (inl refl));
   show_fault = λ is. absurd (ends_apart ends.DiskFault ends.ShowFault refl is);
-  disk_fault = λ is. c.in-Err-DiskFault.ensures.failed (ap Err c.in-Err-DiskFault.field-0-is);
-  stops = drill_disk_stops c.in-Err-DiskFault.field-0 _ _ c.in-Err-DiskFault.ensures.counted;
+  disk_fault = λ is. c.in-Err-Halt-Disk.ensures.failed (ap Err (c.in-Err-Halt-Disk.field-0-is ∙ ap drills.Halt c.in-Err-Halt-Disk.field-0-0-is));
+  stops = drill_disk_stops c.in-Err-Halt-Disk.field-0 _ _ c.in-Err-Halt-Disk.ensures.counted;
   calls = c.drill_store.ensures.writes.calls;
 }
 
-pub returns-in-Err-Memory : goal.returns-in-Err-Memory
-returns-in-Err-Memory g c = record {
+pub returns-in-Err-Halt-Memory : goal.returns-in-Err-Halt-Memory
+returns-in-Err-Halt-Memory g c = record {
   shows = λ isnt. reply_none (told_line c.args.n) ends.Memory (g.S.Site.log c.args.site.now) (g.S.Site.log c.drill_store.new.site) (ends_apart ends.Memory ends.Done refl) c.drill_store.ensures.writes.as_logged;
   runs = λ told.
-      drill_stopped g.S.Site g.met.S.Site.only_now g.met.S.Site.logs_now drills.Memory c.args.n c.args.site.now c.drill_store.new.site
-      (subst (λ (f : DrillFault). DrillsInTurn {T = List ℕ} g.S.Site c.args.n (Err f) c.args.site.now c.drill_store.new.site) c.in-Err-Memory.field-0-is (c.in-Err-Memory.ensures.in_turn told))
+      drill_stopped g.S.Site g.met.S.Site.only_now g.met.S.Site.logs_now (drills.Halt halts.Memory) c.args.n c.args.site.now c.drill_store.new.site
+      (subst (λ (f : DrillFault). DrillsInTurn {T = List ℕ} g.S.Site c.args.n (Err f) c.args.site.now c.drill_store.new.site) (c.in-Err-Halt-Memory.field-0-is ∙ ap drills.Halt c.in-Err-Halt-Memory.field-0-0-is) (c.in-Err-Halt-Memory.ensures.in_turn told))
       c.drill_store.ensures.writes (c.drill_store.ensures.spared told);
   not_empty = λ is. absurd (ends_apart ends.Memory ends.NotEmpty refl is);
   only_files = λ told is. absurd (ends_apart ends.Memory ends.NotEmpty refl is);
@@ -82,6 +83,6 @@ returns-in-Err-Memory g c = record {
   status = inr (inr (inr (inr refl)));
   show_fault = λ is. absurd (ends_apart ends.Memory ends.ShowFault refl is);
   disk_fault = λ is. absurd (ends_apart ends.Memory ends.DiskFault refl is);
-  stops = stops_at_none _ _ _ _ _ (not_drilled c.in-Err-Memory.field-0 _ _ (memory_drilled c.in-Err-Memory.field-0 c.in-Err-Memory.field-0-is) c.in-Err-Memory.ensures.counted);
+  stops = stops_at_none _ _ _ _ _ (not_drilled c.in-Err-Halt-Memory.field-0 _ _ (memory_drilled c.in-Err-Halt-Memory.field-0 (c.in-Err-Halt-Memory.field-0-is ∙ ap drills.Halt c.in-Err-Halt-Memory.field-0-0-is)) c.in-Err-Halt-Memory.ensures.counted);
   calls = c.drill_store.ensures.writes.calls;
 }

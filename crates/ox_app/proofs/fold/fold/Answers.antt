@@ -13,6 +13,7 @@ use Rattle.ox_app.proofs.FeedState.{HasAnswered}
 use Rattle.ox_outside.proofs.OnlyTalks.{talks_none}
 use Rattle.ox_outside.proofs.Calls.{calls_then}
 use Rattle.ox_outside.proofs.Counts.{no_fault_then, no_fault_yet, stops_at_none, then_rose}
+use Rattle.ox_gated.specs.declared.fault.Halt.TheVariants as halts
 use Rattle.ox_app.specs.declared.stop.Stop.TheVariants as stops
 use Rattle.ox_app.proofs.Stops.{all_shown, part_stops, part_went, show_stops, stopped_as, stops_apart, unstopped}
 use Rattle.ox_app.proofs.fold.fold.Goals as goal
@@ -34,13 +35,13 @@ returns-in_err-chain g c = record {
       rw (p.1, p.2) (grows_unheard (stack_of (empty_machine c.args.p.now fold_depth)) (g.S.Site.log c.args.site.now));
   hear_fault = λ is.
       let p = err_from_is_err_and c.from_residual.result c.from_residual.ensures.1 in
-      absurd (stops_apart stops.Memory stops.HearFault refl (stopped_as c.from_residual.result stops.Memory stops.HearFault (p.1 ∙ ap Err p.2) is));
+      absurd (stops_apart (stops.Halt halts.Memory) stops.HearFault refl (stopped_as c.from_residual.result (stops.Halt halts.Memory) stops.HearFault (p.1 ∙ ap Err p.2) is));
   show_fault = λ is.
       let p = err_from_is_err_and c.from_residual.result c.from_residual.ensures.1 in
-      absurd (stops_apart stops.Memory stops.ShowFault refl (stopped_as c.from_residual.result stops.Memory stops.ShowFault (p.1 ∙ ap Err p.2) is));
+      absurd (stops_apart (stops.Halt halts.Memory) stops.ShowFault refl (stopped_as c.from_residual.result (stops.Halt halts.Memory) stops.ShowFault (p.1 ∙ ap Err p.2) is));
   no_disk_fault = λ is.
       let p = err_from_is_err_and c.from_residual.result c.from_residual.ensures.1 in
-      absurd (stops_apart stops.Memory stops.DiskFault refl (stopped_as c.from_residual.result stops.Memory stops.DiskFault (p.1 ∙ ap Err p.2) is));
+      absurd (stops_apart (stops.Halt halts.Memory) (stops.Halt halts.Disk) refl (stopped_as c.from_residual.result (stops.Halt halts.Memory) (stops.Halt halts.Disk) (p.1 ∙ ap Err p.2) is));
   counted = stops_at_none _ _ _ _ _ (no_fault_yet (g.S.Site.counts c.args.site.now));
   talks = talks_none g.S.Site g.met.S.Site.only_now g.met.S.Site.logs_now Anything c.args.site.now tt;
 }
@@ -64,7 +65,7 @@ returns-in_err-answer g c = record {
       absurd (c.in_err-answer.ensures.no_show_fault (ap Err (stopped_as c.from_residual-in_err-answer.result c.in_err-answer.field-0.0 stops.ShowFault (p.1 ∙ ap Err p.2) is)));
   no_disk_fault = λ is.
       let p = err_from_is_err_and c.from_residual-in_err-answer.result c.from_residual-in_err-answer.ensures.1 in
-      c.in_err-answer.ensures.no_disk_fault (ap Err (stopped_as c.from_residual-in_err-answer.result c.in_err-answer.field-0.0 stops.DiskFault (p.1 ∙ ap Err p.2) is));
+      c.in_err-answer.ensures.no_disk_fault (ap Err (stopped_as c.from_residual-in_err-answer.result c.in_err-answer.field-0.0 (stops.Halt halts.Disk) (p.1 ∙ ap Err p.2) is));
   counted =
       let p = err_from_is_err_and c.from_residual-in_err-answer.result c.from_residual-in_err-answer.ensures.1 in
       part_stops c.from_residual-in_err-answer.result c.in_err-answer.field-0.0 _ _ _ (p.1 ∙ ap Err p.2) c.loop-chain.invariant.2 c.in_err-answer.ensures.counted;
@@ -96,7 +97,7 @@ returns-in_err-show_all g c = record {
       then_rose ((counts c.args.site.now).show 0) ((counts c.next_answer.new.site).show 0) ((counts c.show_all.new.site).show 0) (so_far.none_fell.show 0) c.in_err-show_all.ensures.failed;
   no_disk_fault = λ is.
       let p = err_from_is_err_and c.from_residual-in_err-show_all.result c.from_residual-in_err-show_all.ensures.1 in
-      absurd (stops_apart stops.ShowFault stops.DiskFault refl (stopped_as c.from_residual-in_err-show_all.result stops.ShowFault stops.DiskFault (p.1 ∙ ap Err p.2) is));
+      absurd (stops_apart stops.ShowFault (stops.Halt halts.Disk) refl (stopped_as c.from_residual-in_err-show_all.result stops.ShowFault (stops.Halt halts.Disk) (p.1 ∙ ap Err p.2) is));
   counted =
       let p = err_from_is_err_and c.from_residual-in_err-show_all.result c.from_residual-in_err-show_all.ensures.1 in
       show_stops c.show_all.result c.from_residual-in_err-show_all.result _ _ _ (p.1 ∙ ap Err p.2)
@@ -136,7 +137,7 @@ returns g c = record {
       c.next_answer.ensures.count c.loop-chain.invariant.0 heard;
   hear_fault = λ is. absurd (unstopped stops.HearFault is);
   show_fault = λ is. absurd (unstopped stops.ShowFault is);
-  no_disk_fault = λ is. absurd (unstopped stops.DiskFault is);
+  no_disk_fault = λ is. absurd (unstopped (stops.Halt halts.Disk) is);
   counted = stops_at_none _ _ _ _ _ (no_fault_then _ _ _ c.loop-chain.invariant.2 (part_went _ _ _ c.in_ok-answer.ensures.counted));
   talks =
       talks_on g.S.Site _ _ c.args.site.now c.loop-chain.site c.next_answer.new.site

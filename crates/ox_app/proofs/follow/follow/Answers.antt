@@ -1,4 +1,4 @@
-use Rattle.std.proofs.Common.{◌≡◌, ◌∙◌, List, Option, ap, inl, inr, refl, subst, sym}
+use Rattle.std.proofs.Common.{◌≡◌, ◌∙◌, ap, inl, inr, subst, sym}
 use Rattle.ox_follow.specs.World.{Stood}
 use Rattle.ox_model.specs.Stack.{Stack}
 use Rattle.ox_outside.proofs.Calls.{calls_then, leaves_weaker}

@@ -1,4 +1,4 @@
-use Rattle.std.proofs.Common.{◌≡◌, ◌∙◌, List, [], Option, Some, ap, arith, inl, inr, refl, subst, sym}
+use Rattle.std.proofs.Common.{◌≡◌, ◌∙◌, [], ap, arith, inl, inr, refl, subst, sym}
 use Rattle.std.specs.Prelude.{Ok, Err}
 use Rattle.ox_feed.specs.Feed.{Feed, new_feed}
 use Rattle.ox_follow.specs.Frame.{Have, spelled}

@@ -1,4 +1,4 @@
-use Rattle.std.proofs.Common.{◌∙◌, List, Option, Some, ap, arith, inl, inr, refl, subst, sym}
+use Rattle.std.proofs.Common.{◌∙◌, ap, arith, inl, inr, refl}
 use Rattle.std.specs.Prelude.{Ok, Err}
 use Rattle.std.proofs.lemmas.Result.{err_from_is_err_and}
 use Rattle.ox_follow.specs.Frame.{Have, plain, spelled}
@@ -9,7 +9,6 @@ use Rattle.ox_outside.proofs.Log.{grows_same}
 use Rattle.ox_pieces.specs.Frames.{Advances}
 use Rattle.ox_pieces.specs.Stood.{stood_in}
 use Rattle.ox_app.specs.OneFrame.{EndsFrom, shown_follower}
-use Rattle.ox_app.specs.declared.status.Status.TheVariants as ends
 use Rattle.ox_app.proofs.Crashes.{holds_on}
 use Rattle.ox_app.proofs.FollowLogs.{logs_followed, logs_taken, logs_untaken}
 use Rattle.ox_app.proofs.FollowMoments.{During, Unanswered, during_hearing, during_showing, during_taking, passed}

@@ -2,8 +2,8 @@ use Rattle.ox_app.proofs.Taking.{taken_moments, unmoved}
 use Rattle.ox_follow.specs.Frame.{plain}
 use Rattle.ox_app.proofs.follow.take.Goals as goal
 
-pub returns-in_err-commit-in-Ok-clause-any_moment : goal.returns-in_err-commit-in-Ok-clause-any_moment
-returns-in_err-commit-in-Ok-clause-any_moment g c = λ told stood.
+pub returns-in-Ok-commit-clause-any_moment : goal.returns-in-Ok-commit-clause-any_moment
+returns-in-Ok-commit-clause-any_moment g c = λ told stood.
     let taken = c.in-Ok.ensures.taken in
     taken_moments g.S.Site c.args.follower.mine (plain c.args.frame.now) c.in-Ok.taken.next c.args.site.now c.commit.new.site taken.takes (c.commit.ensures.any_moment told c.args.follower.mine stood taken.leads)
 

@@ -4,12 +4,13 @@ use Rattle.ox_outside.proofs.Calls.{calls_then}
 use Rattle.ox_outside.proofs.Counts.{stops_at_none, then_rose}
 use Rattle.ox_files.specs.Stands.{stands}
 use Rattle.ox_model.specs.Stack.{Stack}
-use Rattle.ox_store.specs.Grow.{IsGrowFault, growing}
-use Rattle.ox_store.specs.declared.fault.GrowFault.TheVariants as grows
+use Rattle.ox_store.specs.Fault.{IsMisfit}
+use Rattle.ox_store.specs.Grow.{growing}
 use Rattle.ox_store.specs.declared.fault.OpenFault.TheVariants as opens
 use Rattle.ox_app.specs.Grow.{HasGrownFiles, StandsForGrowing}
 use Rattle.ox_app.specs.Show.{DiskFails, ShowFails}
 use Rattle.ox_app.specs.declared.status.Status.TheVariants as ends
+use Rattle.ox_app.proofs.AnyRuns.{grown_in_turn}
 use Rattle.ox_app.proofs.Done.{text_done}
 use Rattle.ox_app.proofs.Growing.{disk_stops_growing, grown_files, grown_told, grown_well, memory_isnt_disk, misfit_isnt_disk, not_disk_grown, not_grown, only_told_grown, told_grow, ungrown_says, unopened_grow, while_grown}
 use Rattle.ox_app.proofs.Images.{looked_then_talked, memory_undone, only_looked, reply_none, same_stack, says_nothing, told_after}
@@ -30,6 +31,9 @@ returns-in-Ok g c =
     let version = λ (stack : Stack) (opened : StandsForGrowing g.S.Site c.args.site.now stack).
     grown_files (g.S.Site.seen c.args.site.now) (g.S.Site.seen c.grow.new.site) stack c.in-Ok._store.tail opened.stands_for (c.in-Ok.ensures.turned opened.told)
     (c.in-Ok.ensures.holds opened.told).keeps (c.in-Ok.ensures.shut opened.told) in
+    let survives = λ (stack : Stack) (opened : StandsForGrowing g.S.Site c.args.site.now stack).
+    grown_told g.S.Site stack _ c.args.site.now c.grow.new.site c.tell.new.site opened.stands_for (c.in-Ok.ensures.stands opened.told ∙ ap Ok (same stack opened)) (version stack opened)
+    (c.in-Ok.ensures.holds opened.told).settled (c.grow.ensures.any_moment opened.told) c.grow.ensures.writes c.tell.ensures.talks in
     record {
       grows = record {
         grows = λ stack opened. (
@@ -43,9 +47,8 @@ returns-in-Ok g c =
               version = subst HasGrownFiles (sym talks.files.files) (version stack opened);
               settled = settled_talking g.S.Site c.grow.new.site c.tell.new.site talks.files (c.in-Ok.ensures.holds opened.told).settled;
             };
-        grow_survives = λ stack opened.
-            grown_told g.S.Site stack _ c.args.site.now c.grow.new.site c.tell.new.site opened.stands_for (c.in-Ok.ensures.stands opened.told ∙ ap Ok (same stack opened)) (version stack opened)
-            (c.in-Ok.ensures.holds opened.told).settled (c.grow.ensures.any_moment opened.told) c.grow.ensures.writes c.tell.ensures.talks;
+        grow_survives = survives;
+        grow_in_turn = λ stack opened. grown_in_turn g.S.Site stack c.args.site.now c.tell.new.site opened.stands_for (survives stack opened);
         ungrown = λ misfit opened. not_grown (growing (g.S.Site.seen c.args.site.now)) c.in-Ok._store.stack misfit (c.in-Ok.ensures.grown opened.told) opened.fails;
         no_growing = λ is. absurd (only.store is);
         grow_status = told_grow c.tell.result c.tell.ensures.status;
@@ -63,14 +66,15 @@ returns-in-Ok g c =
 pub returns-in-Err-NotStore : goal.returns-in-Err-NotStore
 returns-in-Err-NotStore g c =
     let standing = growing (g.S.Site.seen c.args.site.now) in
-    let fails : IsTrue (g.S.Site.told c.args.site.now) → IsGrowFault standing (grows.NotStore c.in-Err-NotStore.file c.in-Err-NotStore.at) =
-    λ told. subst (IsGrowFault standing) c.in-Err-NotStore.field-0-is (c.in-Err-NotStore.ensures.fault told) in
+    let fails : IsTrue (g.S.Site.told c.args.site.now) → IsMisfit standing (opens.NotStore c.in-Err-NotStore.file c.in-Err-NotStore.at) =
+    λ told. subst (IsMisfit standing) c.in-Err-NotStore.field-0-is (c.in-Err-NotStore.ensures.fault told) in
     let says = rw (c.in-Err-NotStore.file-is, c.in-Err-NotStore.at-is) at c.explain.ensures.says in
     record {
       grows = record {
         grows = λ stack opened. not_grown standing stack _ opened.stands_for (fails opened.told);
         grown = λ stack opened is. not_grown standing stack _ opened.stands_for (fails opened.told);
         grow_survives = λ stack opened. not_grown standing stack _ opened.stands_for (fails opened.told);
+        grow_in_turn = λ stack opened. not_grown standing stack _ opened.stands_for (fails opened.told);
         ungrown = λ misfit opened. record {
           unopened = c.explain.ensures.status;
           unsaid = λ isnt. says_nothing g.S.Site (opens.NotStore c.in-Err-NotStore.file c.in-Err-NotStore.at) c.explain.result c.grow.new.site c.explain.new.site says isnt ∙ c.grow.ensures.writes.as_logged;
@@ -96,6 +100,7 @@ returns-in-Err-Halt-Disk g c = record {
     grows = λ stack opened. (ends_apart ends.DiskFault ends.NotStore refl, reply_none _ ends.DiskFault (g.S.Site.log c.args.site.now) (g.S.Site.log c.grow.new.site) (ends_apart ends.DiskFault ends.Done refl) c.grow.ensures.writes.as_logged);
     grown = λ stack opened is. absurd (⊎_elim (ends_apart ends.DiskFault ends.Done refl) (ends_apart ends.DiskFault ends.ShowFault refl) is);
     grow_survives = λ stack opened. while_grown g.S.Site stack c.args.site.now c.grow.new.site opened.stands_for (c.grow.ensures.any_moment opened.told) c.grow.ensures.writes;
+    grow_in_turn = λ stack opened. grown_in_turn g.S.Site stack c.args.site.now c.grow.new.site opened.stands_for (while_grown g.S.Site stack c.args.site.now c.grow.new.site opened.stands_for (c.grow.ensures.any_moment opened.told) c.grow.ensures.writes);
     ungrown = λ misfit opened. record {
       unopened = inr (inl refl);
       unsaid = λ isnt. c.grow.ensures.writes.as_logged;
@@ -103,10 +108,10 @@ returns-in-Err-Halt-Disk g c = record {
     };
     no_growing = λ is. absurd (ends_apart ends.DiskFault ends.NotStore refl is);
     grow_status = inr (inr (inl refl));
-    grow_completes = λ stack opened no_disk no_show. absurd (no_disk (c.in-Err-Halt-Disk.ensures.failed (ap Err (c.in-Err-Halt-Disk.field-0-is ∙ ap grows.Halt c.in-Err-Halt-Disk.field-0-0-is))));
+    grow_completes = λ stack opened no_disk no_show. absurd (no_disk (c.in-Err-Halt-Disk.ensures.failed (ap Err (c.in-Err-Halt-Disk.field-0-is ∙ ap opens.Halt c.in-Err-Halt-Disk.field-0-0-is))));
   };
   looks = λ is. absurd (ends_apart ends.DiskFault ends.NotStore refl is);
-  disk_fault = λ is. c.in-Err-Halt-Disk.ensures.failed (ap Err (c.in-Err-Halt-Disk.field-0-is ∙ ap grows.Halt c.in-Err-Halt-Disk.field-0-0-is));
+  disk_fault = λ is. c.in-Err-Halt-Disk.ensures.failed (ap Err (c.in-Err-Halt-Disk.field-0-is ∙ ap opens.Halt c.in-Err-Halt-Disk.field-0-0-is));
   show_fault = λ is. absurd (ends_apart ends.DiskFault ends.ShowFault refl is);
   stops = disk_stops_growing c.in-Err-Halt-Disk.field-0 _ _ c.in-Err-Halt-Disk.ensures.counted;
   calls = c.grow.ensures.writes.calls;
@@ -118,6 +123,7 @@ returns-in-Err-Halt-Memory g c = record {
     grows = λ stack opened. (ends_apart ends.Memory ends.NotStore refl, reply_none _ ends.Memory (g.S.Site.log c.args.site.now) (g.S.Site.log c.grow.new.site) memory_undone c.grow.ensures.writes.as_logged);
     grown = λ stack opened is. absurd (⊎_elim memory_undone (ends_apart ends.Memory ends.ShowFault refl) is);
     grow_survives = λ stack opened. while_grown g.S.Site stack c.args.site.now c.grow.new.site opened.stands_for (c.grow.ensures.any_moment opened.told) c.grow.ensures.writes;
+    grow_in_turn = λ stack opened. grown_in_turn g.S.Site stack c.args.site.now c.grow.new.site opened.stands_for (while_grown g.S.Site stack c.args.site.now c.grow.new.site opened.stands_for (c.grow.ensures.any_moment opened.told) c.grow.ensures.writes);
     ungrown = λ misfit opened. record {
       unopened = inr (inr refl);
       unsaid = λ isnt. c.grow.ensures.writes.as_logged;
@@ -130,6 +136,6 @@ returns-in-Err-Halt-Memory g c = record {
   looks = λ is. absurd (ends_apart ends.Memory ends.NotStore refl is);
   disk_fault = λ is. absurd (ends_apart ends.Memory ends.DiskFault refl is);
   show_fault = λ is. absurd (ends_apart ends.Memory ends.ShowFault refl is);
-  stops = stops_at_none _ _ _ _ _ (not_disk_grown c.in-Err-Halt-Memory.field-0 _ _ (memory_isnt_disk c.in-Err-Halt-Memory.field-0 (c.in-Err-Halt-Memory.field-0-is ∙ ap grows.Halt c.in-Err-Halt-Memory.field-0-0-is)) c.in-Err-Halt-Memory.ensures.counted);
+  stops = stops_at_none _ _ _ _ _ (not_disk_grown c.in-Err-Halt-Memory.field-0 _ _ (memory_isnt_disk c.in-Err-Halt-Memory.field-0 (c.in-Err-Halt-Memory.field-0-is ∙ ap opens.Halt c.in-Err-Halt-Memory.field-0-0-is)) c.in-Err-Halt-Memory.ensures.counted);
   calls = c.grow.ensures.writes.calls;
 }

@@ -2,6 +2,7 @@ use Rattle.std.proofs.Common.{◌∙◌, ⊎_elim, ap, inl, inr, refl}
 use Rattle.std.specs.Prelude.{Err, Ok}
 use Rattle.ox_outside.proofs.Calls.{calls_then}
 use Rattle.ox_outside.proofs.Counts.{stops_at_none, then_rose}
+use Rattle.ox_store.specs.declared.fault.MakeFault.TheVariants as makes
 use Rattle.ox_files.specs.Stands.{stands}
 use Rattle.ox_app.specs.Init.{made_line, not_empty_line}
 use Rattle.ox_app.specs.declared.status.Status.TheVariants as ends
@@ -61,8 +62,8 @@ returns-in-Err-NotEmpty g c = record {
   calls = calls_then g.S.Site c.args.site.now c.make.new.site c.say.new.site c.make.ensures.writes.calls c.say.ensures.talks.calls;
 }
 
-pub returns-in-Err-DiskFault : goal.returns-in-Err-DiskFault
-returns-in-Err-DiskFault g c = record {
+pub returns-in-Err-Halt-Disk : goal.returns-in-Err-Halt-Disk
+returns-in-Err-Halt-Disk g c = record {
   shows = λ isnt. reply_none made_line ends.DiskFault (g.S.Site.log c.args.site.now) (g.S.Site.log c.make.new.site) (ends_apart ends.DiskFault ends.Done refl) c.make.ensures.writes.as_logged;
   not_empty = λ is. absurd (ends_apart ends.DiskFault ends.NotEmpty refl is);
   only_empty = λ told is. absurd (ends_apart ends.DiskFault ends.NotEmpty refl is);
@@ -73,13 +74,13 @@ returns-in-Err-DiskFault g c = record {
   looks = λ is. absurd (⊎_elim (ends_apart ends.DiskFault ends.NotEmpty refl) (ends_apart ends.DiskFault ends.Memory refl) is);
   status = inr (inr (inl refl));
   show_fault = λ is. absurd (ends_apart ends.DiskFault ends.ShowFault refl is);
-  disk_fault = λ is. c.in-Err-DiskFault.ensures.failed (ap Err c.in-Err-DiskFault.field-0-is);
-  stops = make_disk_stops c.in-Err-DiskFault.field-0 _ _ c.in-Err-DiskFault.ensures.counted;
+  disk_fault = λ is. c.in-Err-Halt-Disk.ensures.failed (ap Err (c.in-Err-Halt-Disk.field-0-is ∙ ap makes.Halt c.in-Err-Halt-Disk.field-0-0-is));
+  stops = make_disk_stops c.in-Err-Halt-Disk.field-0 _ _ c.in-Err-Halt-Disk.ensures.counted;
   calls = c.make.ensures.writes.calls;
 }
 
-pub returns-in-Err-Memory : goal.returns-in-Err-Memory
-returns-in-Err-Memory g c = record {
+pub returns-in-Err-Halt-Memory : goal.returns-in-Err-Halt-Memory
+returns-in-Err-Halt-Memory g c = record {
   shows = λ isnt. reply_none made_line ends.Memory (g.S.Site.log c.args.site.now) (g.S.Site.log c.make.new.site) (ends_apart ends.Memory ends.Done refl) c.make.ensures.writes.as_logged;
   not_empty = λ is. absurd (ends_apart ends.Memory ends.NotEmpty refl is);
   only_empty = λ told is. absurd (ends_apart ends.Memory ends.NotEmpty refl is);
@@ -87,10 +88,10 @@ returns-in-Err-Memory g c = record {
   spares = λ told filled. only_looked g.S.Site c.args.site.now c.make.new.site (c.make.ensures.spared told filled);
   made = λ told is. absurd (⊎_elim (ends_apart ends.Memory ends.Done refl) (ends_apart ends.Memory ends.ShowFault refl) is);
   made_before = λ told isnt. making g.S.Site c.args.name c.args.depth c.args.site.now c.make.new.site c.make.ensures.writes.moments;
-  looks = λ is. only_looked g.S.Site c.args.site.now c.make.new.site (c.in-Err-Memory.ensures.wrote_nothing (inr (ap Err c.in-Err-Memory.field-0-is)));
+  looks = λ is. only_looked g.S.Site c.args.site.now c.make.new.site (c.in-Err-Halt-Memory.ensures.wrote_nothing (inr (ap Err (c.in-Err-Halt-Memory.field-0-is ∙ ap makes.Halt c.in-Err-Halt-Memory.field-0-0-is))));
   status = inr (inr (inr (inr refl)));
   show_fault = λ is. absurd (ends_apart ends.Memory ends.ShowFault refl is);
   disk_fault = λ is. absurd (ends_apart ends.Memory ends.DiskFault refl is);
-  stops = stops_at_none _ _ _ _ _ (not_made c.in-Err-Memory.field-0 _ _ (memory_made c.in-Err-Memory.field-0 c.in-Err-Memory.field-0-is) c.in-Err-Memory.ensures.counted);
+  stops = stops_at_none _ _ _ _ _ (not_made c.in-Err-Halt-Memory.field-0 _ _ (memory_made c.in-Err-Halt-Memory.field-0 (c.in-Err-Halt-Memory.field-0-is ∙ ap makes.Halt c.in-Err-Halt-Memory.field-0-0-is)) c.in-Err-Halt-Memory.ensures.counted);
   calls = c.make.ensures.writes.calls;
 }

@@ -1,4 +1,4 @@
-use Rattle.std.proofs.Common.{List, Option, inl, inr, refl, subst, sym}
+use Rattle.std.proofs.Common.{subst, sym}
 use Rattle.ox_feed.specs.Feed.{Feed, new_feed}
 use Rattle.ox_outside.proofs.Counts.{no_fault_then, no_fault_yet}
 use Rattle.ox_outside.proofs.OnlyTalks.{talks_none}

@@ -1,5 +1,4 @@
-use Rattle.std.proofs.Common.{◌≤◌}
-use Rattle.ox_feed.specs.Feed.{bytes_left, feed_limit, new_feed}
+use Rattle.ox_feed.specs.Feed.{bytes_left, new_feed}
 use Rattle.ox_outside.specs.Counts.{NoFault}
 use Rattle.ox_outside.specs.Log.{Grows}
 use Rattle.ox_outside.specs.Runs.{OnlyTalks}

@@ -1,6 +1,6 @@
-use Rattle.std.proofs.Common.{◌∙◌, ap, arith, inl, inr, refl, sym}
+use Rattle.std.proofs.Common.{arith, inl, inr, refl}
 use Rattle.std.proofs.lemmas.Result.{err_from_is_err_and}
-use Rattle.ox_feed.specs.Feed.{Feed, Listens}
+use Rattle.ox_feed.specs.Feed.{Listens}
 use Rattle.ox_follow.specs.Frame.{plain, spelled}
 use Rattle.ox_outside.proofs.Counts.{no_fault_then}
 use Rattle.ox_outside.proofs.OnlyTalks.{talks_weaker}
@@ -12,7 +12,6 @@ use Rattle.ox_app.proofs.Stops.{all_shown}
 use Rattle.ox_app.proofs.TalkFaults.{faults_after, heard_lead, heard_well, hearing_faults, no_faults, no_faults_yet, showing_faults}
 use Rattle.ox_app.proofs.TalkLogs.{logs_answered, logs_ended, logs_unheard, logs_unshown}
 use Rattle.ox_app.proofs.TalksOn.{talks_on}
-use Rattle.ox_app.specs.declared.status.Status.TheVariants as ends
 use Rattle.ox_app.proofs.lead.answer_next.Goals as goal
 
 pub returns-in_err-advance : goal.returns-in_err-advance

@@ -1,4 +1,4 @@
-use Rattle.std.proofs.Common.{◌≡◌, ◌∙◌, List, Option, ap, inl, inr, refl, subst, sym}
+use Rattle.std.proofs.Common.{◌≡◌, inl, inr, subst, sym}
 use Rattle.ox_follow.specs.World.{Leader}
 use Rattle.ox_model.specs.Stack.{Stack}
 use Rattle.ox_outside.proofs.Calls.{calls_then}

@@ -4,6 +4,7 @@ use Rattle.ox_store.specs.Migrate.{IsOldFault}
 use Rattle.ox_store.specs.declared.fault.OpenFault.TheVariants as opens
 use Rattle.ox_outside.proofs.Calls.{calls_then, looks_none, no_call}
 use Rattle.ox_outside.proofs.Counts.{no_fault_yet, stops_at_none, then_rose}
+use Rattle.ox_store.specs.declared.fault.MigrateFault.TheVariants as migrates
 use Rattle.ox_model.specs.Stack.{Stack}
 use Rattle.ox_files.specs.OldStands.{old_stands}
 use Rattle.ox_files.specs.Stands.{stands}
@@ -135,8 +136,8 @@ returns-in-Err-Old g c = record {
   calls = calls_then g.S.Site c.args.site.now c.migrate.new.site c.explain_old.new.site c.migrate.ensures.writes.calls c.explain_old.ensures.talks.calls;
 }
 
-pub returns-in-Err-DiskFault : goal.returns-in-Err-DiskFault
-returns-in-Err-DiskFault g c = record {
+pub returns-in-Err-Halt-Disk : goal.returns-in-Err-Halt-Disk
+returns-in-Err-Halt-Disk g c = record {
   shows = λ told stack commands stood. ((ends_apart ends.DiskFault ends.NotStore refl), (ends_apart ends.DiskFault ends.OldCommand refl), reply_none _ ends.DiskFault (g.S.Site.log c.args.site.now) (g.S.Site.log c.migrate.new.site) (ends_apart ends.DiskFault ends.Done refl) c.migrate.ensures.writes.as_logged);
   migrated = λ told stack commands stood is. absurd (⊎_elim (ends_apart ends.DiskFault ends.Done refl) (ends_apart ends.DiskFault ends.ShowFault refl) is);
   survives = λ told stack commands stood. while_migrated g.S.Site stack commands c.args.site.now c.migrate.new.site stood (c.migrate.ensures.any_moment told) c.migrate.ensures.writes;
@@ -148,8 +149,8 @@ returns-in-Err-DiskFault g c = record {
   looks = λ is. absurd (⊎_elim (ends_apart ends.DiskFault ends.NotStore refl) (λ other. ⊎_elim (ends_apart ends.DiskFault ends.OldCommand refl) (ends_apart ends.DiskFault ends.Memory refl) other) is);
   status = inr (inr (inl refl));
   show_fault = λ is. absurd (ends_apart ends.DiskFault ends.ShowFault refl is);
-  disk_fault = λ is. c.in-Err-DiskFault.ensures.failed (ap Err c.in-Err-DiskFault.field-0-is);
-  stops = disk_stops c.in-Err-DiskFault.field-0 _ _ c.in-Err-DiskFault.ensures.counted;
+  disk_fault = λ is. c.in-Err-Halt-Disk.ensures.failed (ap Err (c.in-Err-Halt-Disk.field-0-is ∙ ap migrates.Halt (rw c.in-Err-Halt-Disk.field-0-is at c.in-Err-Halt-Disk.field-0-0-is)));
+  stops = disk_stops c.in-Err-Halt-Disk.field-0 _ _ c.in-Err-Halt-Disk.ensures.counted;
   calls = c.migrate.ensures.writes.calls;
 }
 
@@ -163,10 +164,10 @@ returns g c = record {
   spares = λ told fault failed. only_looked g.S.Site c.args.site.now c.migrate.new.site (c.migrate.ensures.untouched told fault failed);
   not_store = λ is. absurd (ends_apart ends.Memory ends.NotStore refl is);
   old_command = λ is. absurd (ends_apart ends.Memory ends.OldCommand refl is);
-  looks = λ is. only_looked g.S.Site c.args.site.now c.migrate.new.site (c.in-Err-Memory.ensures.wrote_nothing (memory_isnt_disk c.in-Err-Memory.field-0 c.in-Err-Memory.field-0-is));
+  looks = λ is. only_looked g.S.Site c.args.site.now c.migrate.new.site (c.in-Err-Halt-Memory.ensures.wrote_nothing (memory_isnt_disk c.in-Err-Halt-Memory.field-0 (c.in-Err-Halt-Memory.field-0-is ∙ ap migrates.Halt (rw c.in-Err-Halt-Memory.field-0-is at c.in-Err-Halt-Memory.field-0-0-is))));
   status = inr (inr (inr (inr (inl refl))));
   show_fault = λ is. absurd (ends_apart ends.Memory ends.ShowFault refl is);
   disk_fault = λ is. absurd (ends_apart ends.Memory ends.DiskFault refl is);
-  stops = stops_at_none _ _ _ _ _ (not_disk_old c.in-Err-Memory.field-0 _ _ (memory_isnt_disk c.in-Err-Memory.field-0 c.in-Err-Memory.field-0-is) c.in-Err-Memory.ensures.counted);
+  stops = stops_at_none _ _ _ _ _ (not_disk_old c.in-Err-Halt-Memory.field-0 _ _ (memory_isnt_disk c.in-Err-Halt-Memory.field-0 (c.in-Err-Halt-Memory.field-0-is ∙ ap migrates.Halt (rw c.in-Err-Halt-Memory.field-0-is at c.in-Err-Halt-Memory.field-0-0-is))) c.in-Err-Halt-Memory.ensures.counted);
   calls = c.migrate.ensures.writes.calls;
 }

@@ -2,9 +2,12 @@ use Rattle.std.proofs.Common.{◌≡◌, ◌∙◌, List, ℕ, inl, inr, refl, s
 use Rattle.ox_outside.proofs.Counts.{no_fault_yet, stops_as, stops_at_none}
 use Rattle.ox_outside.proofs.OnlyTalks.{talks_none, talks_weaker}
 use Rattle.ox_outside.specs.Runs.{OnlyTalks}
+use Rattle.ox_gated.specs.declared.fault.Halt.TheVariants as halts
+use Rattle.ox_gated.specs.declared.fault.Halt.{Halt}
 use Rattle.ox_store.specs.declared.fault.OpenFault.{OpenFault}
 use Rattle.ox_store.specs.declared.fault.OpenFault.TheVariants as opens
 use Rattle.ox_app.specs.Show.{Says}
+use Rattle.ox_app.specs.Status.{IsUnopened, halt_status}
 use Rattle.ox_app.specs.Unopened.{LogsUnopened, UnopenedAs}
 use Rattle.ox_app.specs.declared.status.Status.TheVariants as ends
 use Rattle.ox_app.proofs.unopened.explain.Goals as goal
@@ -33,26 +36,18 @@ returns-in-Err g c = record {
       (talks_none g.S.Site g.met.S.Site.only_now g.met.S.Site.logs_now (LogsUnopened (opens.NotStore c.in-NotStore.file c.in-NotStore.at)) c.args.site.now tt);
 }
 
-pub returns-in-DiskFault : goal.returns-in-DiskFault
-returns-in-DiskFault g c = record {
-  status = inr (inl refl);
-  says =
-      subst (λ (f : OpenFault). UnopenedAs g.S.Site f ends.DiskFault c.args.site.now c.args.site.now) (sym c.in-DiskFault.is)
-      ((refl, refl));
-  counted = stops_at_none _ _ _ _ _ (no_fault_yet (g.S.Site.counts c.args.site.now));
-  talks =
-      subst (λ (f : OpenFault). OnlyTalks g.S.Site (LogsUnopened f) c.args.site.now c.args.site.now) (sym c.in-DiskFault.is)
-      (talks_none g.S.Site g.met.S.Site.only_now g.met.S.Site.logs_now (LogsUnopened opens.DiskFault) c.args.site.now refl);
-}
+halted : (halt : Halt) → IsUnopened (halt_status halt)
+halted halts.Disk = inr (inl refl)
+halted halts.Memory = inr (inr refl)
 
-pub returns-in-Memory : goal.returns-in-Memory
-returns-in-Memory g c = record {
-  status = inr (inr refl);
+pub returns-in-Halt : goal.returns-in-Halt
+returns-in-Halt g c = record {
+  status = subst IsUnopened (sym c.from.ensures) (halted c.in-Halt.halt);
   says =
-      subst (λ (f : OpenFault). UnopenedAs g.S.Site f ends.Memory c.args.site.now c.args.site.now) (sym c.in-Memory.is)
-      ((refl, refl));
+      subst (λ (f : OpenFault). UnopenedAs g.S.Site f c.from.result c.args.site.now c.args.site.now) (sym c.in-Halt.is)
+      ((c.from.ensures, refl));
   counted = stops_at_none _ _ _ _ _ (no_fault_yet (g.S.Site.counts c.args.site.now));
   talks =
-      subst (λ (f : OpenFault). OnlyTalks g.S.Site (LogsUnopened f) c.args.site.now c.args.site.now) (sym c.in-Memory.is)
-      (talks_none g.S.Site g.met.S.Site.only_now g.met.S.Site.logs_now (LogsUnopened opens.Memory) c.args.site.now refl);
+      subst (λ (f : OpenFault). OnlyTalks g.S.Site (LogsUnopened f) c.args.site.now c.args.site.now) (sym c.in-Halt.is)
+      (talks_none g.S.Site g.met.S.Site.only_now g.met.S.Site.logs_now (LogsUnopened (opens.Halt c.in-Halt.halt)) c.args.site.now refl);
 }
