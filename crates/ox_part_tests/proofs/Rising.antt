@@ -52,6 +52,13 @@ joined low middle start end after a b all is first second up apart on past = sub
   below = λ sat behind. omega (arith, times-append sat a b, first.below sat (omega (arith, behind, apart, on, past)), second.below sat (omega (arith, behind, past)));
 })
 
+pub joined_lower : (start end middle after : ℕ) (a b all : List ℕ) → all ≡ a ++ b → AreWithin middle after a → AreWithin start end b → end ≤ middle → start ≤ middle → end ≤ after → AreWithin start after all
+joined_lower start end middle after a b all is first second apart up past = subst (AreWithin start after) (sym is) (record {
+  once = λ sat. omega (arith, times-append sat a b, sum_once (times sat b) (times sat a) sat middle (second.once sat) (first.once sat) (λ more. second.below sat (omega (arith, more, apart))) (first.from sat));
+  from = λ sat below. omega (arith, times-append sat a b, first.from sat (omega (arith, below, up)), second.from sat below);
+  below = λ sat behind. omega (arith, times-append sat a b, first.below sat behind, second.below sat (omega (arith, behind, past)));
+})
+
 -- what holds where a result is a value, once it is one
 pub on_value : {T E P : Type 0} (r : Result T E) (x : T) → r ≡ Ok x → OnOk r P → P
 on_value (Ok y) x is ok = ok

@@ -103,7 +103,7 @@ fn a_few_keys_go_back(rt: HostRuntime) {
 }
 
 /// Whether the map of two goes back to a new mark, behind puts, at which it has these. An earlier
-/// change was taken back.
+/// change was taken back. A key whose tag no other has is read ahead in vain.
 fn goes_to_new_mark(
     rt: &impl Abort,
     alloc: Global,
@@ -118,7 +118,7 @@ fn goes_to_new_mark(
     map.begin();
     let is_so = has_all(&map, marked) && has_changed(rt, &map, &[]);
     put_all(rt, &mut map, puts);
-    let is_put = has_all(&map, puts) && !map.glance_value(&3);
+    let is_put = has_all(&map, puts) && !map.glance_value(&65_536);
     map.cancel();
     is_so && is_put && has_all(&map, marked)
 }

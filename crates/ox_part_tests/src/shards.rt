@@ -1,4 +1,5 @@
-//! A map over many short lists, with keys of one list and of one tag.
+//! A map over many short lines, with keys of one line and of one tag, and with as many that lines
+//! are split.
 
 use Step::{Get, Put, Take};
 use ox_block::{OutPoint, Txid};
@@ -19,7 +20,7 @@ fn outpoint(first: u8, second: u8, third: u8, index: u32) -> OutPoint {
     }
 }
 
-/// Four outpoints: two of one shard, one at each end of all ids.
+/// Four outpoints: two that are spread alike, one at each end of all ids.
 fn four_outpoints() -> [OutPoint; 4] {
     [
         outpoint(7, 9, 1, 0),
@@ -101,8 +102,8 @@ fn values_are_put_looked_up_displaced_and_taken_out(rt: HostRuntime) {
 #[test]
 fn outputs_of_a_transaction_and_keys_of_one_tag_are_told_apart(rt: HostRuntime) {
     let mut map = Shards::new(rt.alloc());
-    let (one, other) = (outpoint(7, 9, 2, 0), outpoint(7, 8, 1, 1));
-    assert!(rt; one.shard() == other.shard() && one.tag() == other.tag());
+    let (one, other) = (outpoint(7, 9, 2, 0), outpoint(7, 8, 2, 0));
+    assert!(rt; one.spread() == other.spread() && one.tag() == other.tag());
     assert!(rt;
         follows(
             &rt,
@@ -171,12 +172,12 @@ fn what_is_there_is_read_ahead(rt: HostRuntime) {
     assert!(rt; has(&map, a, Some(10)) && map.candidate(&b).copied() == Some((b, 11)));
 }
 
-/// One of the outpoints of one shard, whose list has room for 64.
-fn of_one_shard(third: u8) -> OutPoint {
+/// One of the outpoints that are spread alike, whose line has room for 64.
+fn of_one_line(third: u8) -> OutPoint {
     outpoint(7, 9, third, 0)
 }
 
-/// Whether a map has those of nine outpoints of one shard that are named, and no other of them.
+/// Whether a map has those of nine outpoints of one line that are named, and no other of them.
 fn has_just(map: &Shards<OutPoint, u64>, thirds: &[u8]) -> bool {
     for third in 0..9u8 {
         let value = if thirds.contains(&third) {
@@ -184,7 +185,7 @@ fn has_just(map: &Shards<OutPoint, u64>, thirds: &[u8]) -> bool {
         } else {
             None
         };
-        if !has(map, of_one_shard(third), value) {
+        if !has(map, of_one_line(third), value) {
             return false;
         }
     }
@@ -199,11 +200,11 @@ fn come_and_go(rt: &impl Abort, alloc: Global, coming: &[u8], going: &[u8]) -> b
         if !has_just(&map, &coming[..count]) {
             return false;
         }
-        map.insert(of_one_shard(*third), u64::from(*third))
+        map.insert(of_one_line(*third), u64::from(*third))
             .expect(rt, "memory");
     }
     for (count, third) in going.iter().enumerate() {
-        let taken = map.remove(&of_one_shard(*third));
+        let taken = map.remove(&of_one_line(*third));
         if taken != Some(u64::from(*third)) || !has_just(&map, &going[count + 1..]) {
             return false;
         }
@@ -212,7 +213,7 @@ fn come_and_go(rt: &impl Abort, alloc: Global, coming: &[u8], going: &[u8]) -> b
 }
 
 #[test]
-fn a_few_keys_of_one_shard_come_and_go(rt: HostRuntime) {
+fn a_few_keys_of_one_line_come_and_go(rt: HostRuntime) {
     assert!(rt; come_and_go(&rt, rt.alloc(), &[3], &[3]));
     assert!(rt; come_and_go(&rt, rt.alloc(), &[3, 0], &[3, 0]));
     assert!(rt; come_and_go(&rt, rt.alloc(), &[0, 1, 2, 3, 4, 5], &[2, 4, 0, 5, 1, 3]));
@@ -227,13 +228,13 @@ fn a_few_keys_of_one_shard_come_and_go(rt: HostRuntime) {
 }
 
 #[test]
-fn a_key_behind_a_full_list_stands_once(rt: HostRuntime) {
+fn a_key_behind_a_full_line_stands_once(rt: HostRuntime) {
     let mut map = Shards::new(rt.alloc());
     for third in 0..70u8 {
-        map.insert(of_one_shard(third), u64::from(third))
+        map.insert(of_one_line(third), u64::from(third))
             .expect(&rt, "memory");
     }
-    let [first, last, new] = [of_one_shard(3), of_one_shard(69), of_one_shard(70)];
+    let [first, last, new] = [of_one_line(3), of_one_line(69), of_one_line(70)];
     assert!(rt;
         follows(
             &rt,
@@ -246,8 +247,8 @@ fn a_key_behind_a_full_list_stands_once(rt: HostRuntime) {
                 (Get, last, None),
                 (Put(200), new, None),
                 (Get, new, Some(200)),
-                (Get, of_one_shard(0), Some(0)),
-                (Get, of_one_shard(68), Some(68))
+                (Get, of_one_line(0), Some(0)),
+                (Get, of_one_line(68), Some(68))
             ]
         )
     );
@@ -264,4 +265,79 @@ fn a_thousand_outpoints_are_taken_out(rt: HostRuntime) {
         let at = outpoint((key / 256) as u8, (key % 256) as u8, 0, key);
         assert!(rt; map.remove(&at) == Some(u64::from(key)) && map.get(&at).is_none());
     }
+}
+
+/// An outpoint that is spread by a number, made of another one so that near numbers come apart.
+fn spread_by(number: u32) -> OutPoint {
+    let mut id = [0; 32];
+    let spread = u64::from(number).wrapping_mul(0x9e37_79b9_7f4a_7c15) >> 32;
+    let [first, second, third, fourth, _, _, _, _] = spread.to_le_bytes();
+    id[6] = first;
+    id[7] = second;
+    id[8] = third;
+    id[9] = fourth;
+    id[0] = (number % 256) as u8;
+    OutPoint {
+        txid: Txid(id),
+        index: 0,
+    }
+}
+
+/// Whether the map has each of these outpoints whose number leaves this by 3, with its number, and
+/// none of the others.
+fn has_those_that_leave(map: &Shards<OutPoint, u64>, count: u32, left: u32) -> bool {
+    for number in 0..count {
+        let value = if number % 3 == left {
+            Some(u64::from(number))
+        } else {
+            None
+        };
+        if !has(map, spread_by(number), value) {
+            return false;
+        }
+    }
+    true
+}
+
+#[test]
+fn forty_thousand_keys_stand_where_they_are_looked_for(rt: HostRuntime) {
+    let mut map = Shards::new(rt.alloc());
+    for number in 0..40_000u32 {
+        map.insert(spread_by(number), u64::from(number))
+            .expect(&rt, "memory");
+        assert!(rt; has(&map, spread_by(number / 2), Some(u64::from(number / 2))));
+    }
+    for number in 0..40_000u32 {
+        assert!(rt; has(&map, spread_by(number), Some(u64::from(number))));
+    }
+    assert!(rt; has(&map, spread_by(40_000), None));
+    for number in 0..40_000u32 {
+        if number % 3 != 1 {
+            assert!(rt; map.remove(&spread_by(number)) == Some(u64::from(number)));
+        }
+    }
+    assert!(rt; has_those_that_leave(&map, 40_000, 1));
+}
+
+/// One of the outpoints whose ids agree in all bytes by which they are spread, and in their tags.
+fn alike(number: u16) -> OutPoint {
+    let [low, high] = number.to_le_bytes();
+    outpoint(low, high, 0, 0)
+}
+
+#[test]
+fn two_thousand_keys_that_are_spread_alike_are_told_apart(rt: HostRuntime) {
+    let mut map = Shards::new(rt.alloc());
+    for number in 0..2_000u16 {
+        map.insert(alike(number), u64::from(number))
+            .expect(&rt, "memory");
+    }
+    for number in 0..2_000u16 {
+        assert!(rt; has(&map, alike(number), Some(u64::from(number))));
+    }
+    assert!(rt; has(&map, alike(2_000), None));
+    for number in 0..2_000u16 {
+        assert!(rt; map.remove(&alike(number)) == Some(u64::from(number)));
+    }
+    assert!(rt; has(&map, alike(0), None) && has(&map, alike(1_999), None));
 }

@@ -1,6 +1,6 @@
 //! Where satoshis are.
 
-ghost use Rattle.std.specs.Prelude.{◌≡◌, ◌+◌, ◌*◌, ◌<◌, ◌^◌, length};
+ghost use Rattle.std.specs.Prelude.{◌≡◌, ◌+◌, ◌*◌, ◌<◌, ◌≤◌, ◌^◌, length};
 ghost use Rattle.ox_outputs.specs.Table.{rows_in};
 ghost use Rattle.ox_part_tests.specs.Rising.{AreWithin, HoldBelow};
 
@@ -15,7 +15,13 @@ use std::process::Abort;
 const COUNT: u32 = 500_000;
 
 /// So many runs of one output.
-const RUNS: u32 = 100;
+const RUNS: u32 = 300;
+
+/// So many satoshis of one run: the reward of a block of the first years.
+const LONG: u64 = 5_000_000_000;
+
+/// So far apart begin runs that fall, more than 2^32.
+const FAR: u64 = 3 << 32;
 
 /// The outpoint of a number: a txid that begins with it in four bytes, and index 0.
 fn outpoint(number: u32) -> OutPoint {
@@ -212,8 +218,10 @@ fn runs_below(rt: &impl Abort, alloc: Global, count: u32) -> Ranges
 }
 
 /// Places an output of many runs at the outpoint of 3.
+#[tactic(auto, using(crate::proofs::Rising::placed_below))]
 fn put_many(rt: &impl Abort, alloc: Global, table: &mut Outputs)
     requires { HoldBelow 0 (rows_in table.old) }
+    ensures { HoldBelow (3 * 300) (rows_in table.new) }
 {
     let sats = runs_below(rt, alloc, RUNS);
     let row = row_of(rt, alloc, sats);
@@ -245,4 +253,66 @@ fn a_satoshi_is_found_in_a_row_of_many_runs(rt: HostRuntime) {
     put_many(&rt, rt.alloc(), &mut table);
     assert!(rt; are_runs_located(&table, RUNS));
     assert!(rt; table.locate(3 * u64::from(RUNS)).is_none());
+}
+
+#[test]
+fn a_satoshi_is_found_in_a_long_run_behind_many(rt: HostRuntime) {
+    let mut table = fresh(rt.alloc());
+    put_many(&rt, rt.alloc(), &mut table);
+    put(&rt, rt.alloc(), &mut table, 4, 900, LONG);
+    put(&rt, rt.alloc(), &mut table, 5, 900 + LONG, 2);
+    assert!(rt; is_at(&table, 900, 4, 0) && is_at(&table, 899 + LONG, 4, LONG - 1));
+    assert!(rt; is_at(&table, 900 + LONG, 5, 0) && is_at(&table, 897, 3, 598));
+    assert!(rt; is_lost(&table, 899, 902 + LONG));
+}
+
+/// Puts two satoshis behind others that are all much higher.
+#[tactic(auto, using(crate::proofs::Rising::joined_count))]
+fn join_lower(rt: &impl Abort, alloc: Global, sats: &mut Ranges, first: u64)
+    requires within { AreWithin (first + 2) (2 ^ 36) sats.old }
+    requires len { length sats.old ≤ 4 }
+    requires low { first + 2 ≤ 2 ^ 36 }
+    ensures within { AreWithin first (2 ^ 36) sats.new }
+    ensures len { length sats.new ≡ length sats.old + 2 }
+{
+    let two = run(rt, alloc, first, 2);
+    sats.join(&two).expect(rt, "memory");
+}
+
+/// Three runs of two satoshis each, which fall.
+fn falling(rt: &impl Abort, alloc: Global) -> Ranges
+    ensures { AreWithin 0 (2 ^ 36) result }
+{
+    let mut sats = run(rt, alloc, 2 * FAR, 2);
+    join_lower(rt, alloc, &mut sats, FAR);
+    join_lower(rt, alloc, &mut sats, 0);
+    sats
+}
+
+/// Places an output of runs that fall at the outpoint of 6.
+fn put_falling(rt: &impl Abort, alloc: Global, table: &mut Outputs)
+    requires { HoldBelow 0 (rows_in table.old) }
+{
+    let sats = falling(rt, alloc);
+    let row = row_of(rt, alloc, sats);
+    table.place(&outpoint(6), row).expect(rt, "memory");
+}
+
+/// Whether both satoshis of a run are found at a place of that output, and the one behind in none.
+fn is_falling_located(table: &Outputs, first: u64, offset: u64) -> bool
+    requires sats { first < 2 ^ 36 }
+    requires offsets { offset ≤ 4 }
+{
+    is_at(table, first, 6, offset)
+        && is_at(table, first + 1, 6, offset + 1)
+        && table.locate(first + 2).is_none()
+}
+
+#[test]
+fn satoshis_of_runs_that_fall_far_are_found(rt: HostRuntime) {
+    let mut table = fresh(rt.alloc());
+    put_falling(&rt, rt.alloc(), &mut table);
+    assert!(rt; is_falling_located(&table, 2 * FAR, 0));
+    assert!(rt; is_falling_located(&table, FAR, 2));
+    assert!(rt; is_falling_located(&table, 0, 4));
 }

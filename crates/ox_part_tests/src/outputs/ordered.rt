@@ -107,12 +107,14 @@ fn come_in_order(rt: &impl Abort, alloc: Global, table: &Outputs, thinned: bool)
     order.len() == numbers.len()
 }
 
-/// And whether the row past each outpoint, with or without a row there, is the next one.
+/// And whether the row past each fifth outpoint, with or without a row there, is the next one: each
+/// look goes through all rows.
 fn come_one_by_one(table: &Outputs, thinned: bool) -> bool {
     let mut past = None;
     for place in 0..COUNT {
         let number = nth(place);
-        if height_of(number, thinned).is_some()
+        if place % 5 == 0
+            && height_of(number, thinned).is_some()
             && !is_row(table.next_row(past.as_ref()), number, thinned)
         {
             return false;

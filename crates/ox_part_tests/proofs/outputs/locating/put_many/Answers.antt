@@ -8,4 +8,4 @@ pub place-requires : goal.place-requires
 place-requires g c =
     let held = rows_in c.args.table.now in
     subst (λ (l : List ℕ). MayStand c.outpoint.result l held) (sym c.row_of-row.ensures)
-    (may_stand held c.outpoint.result c.runs_below-sats.result 0 (3 * 100) 0 c.runs_below-sats.ensures c.requires (omega arith))
+    (may_stand held c.outpoint.result c.runs_below-sats.result 0 (3 * 300) 0 c.runs_below-sats.ensures c.requires (omega arith))
