@@ -3,7 +3,7 @@
 
     python3 bench/address.py
 
-has crates/ox_address_rows write a script of 22 bytes and one of 34 a million times each, and write
+has crates/ox_block_rows write a script of 22 bytes and one of 34 a million times each, and write
 each and read its address again, and prints calls a second. bench/all.py builds both.
 """
 
@@ -11,7 +11,7 @@ from runs import processor_time, report
 from tools.programs import plain_program, proved_program
 from tools.words import no_words
 
-PROVED, PLAIN = proved_program("ox_address_rows"), plain_program("address")
+PROVED, PLAIN = proved_program("ox_block_rows"), plain_program("address")
 TIMES = 1_000_000
 SCRIPTS = {
     "22 bytes": "0014751e76e8199196d454941c45d1b3a323f1433bd6",

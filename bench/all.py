@@ -43,7 +43,7 @@ DEBIAN = [
 
 # what each script needs: proved programs, and plain ones
 NEEDS = {
-    "address": (["ox_address_rows"], ["address"]),
+    "address": (["ox_block_rows"], ["address"]),
     "allocation": (["ox_speed"], ["allocation"]),
     "apply_and_open": (["ox_main"], ["opening"]),
     "as_of": (["ox_run_rows"], ["as_of"]),
@@ -60,12 +60,13 @@ NEEDS = {
     "index_blocks": (["ox_main"], ["index"]),
     "inscriptions": (["ox_speed"], ["inscriptions"]),
     "migrate": (["ox_main"], []),
+    "outputs_memory": (["ox_main"], []),
     "query": (["ox_index_rows"], ["query"]),
     "read_block": (["ox_block_rows"], ["read_block"]),
     "rows": (["ox_index_rows"], ["rows"]),
     "runes": (["ox_speed"], ["runes"]),
     "serve": (["ox_main"], ["serve"]),
-    "streams": (["ox_http_rows"], ["http"]),
+    "streams": (["ox_block_rows"], ["http"]),
     "undo": (["ox_main"], ["fold_blocks"]),
 }
 # the words and the feed of the run by which `rt run` builds a program

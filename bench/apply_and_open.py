@@ -17,10 +17,13 @@ that others who use the disk slow both; printed are all times, the least and the
 commands a second, and the ratio. The files that were applied have to have the bytes that
 docs/FORMATS.md says. In the same way, sixty times, it times the 64 blocks between two whole files
 alone, which one `apply` hears. Beside a store of version 2 it times one of version 3: the feed, and
-the opening of 1,000,000 outputs, each in turns. Of stores of version 3 that begin with nothing, of
-depth 100 and 1,000, it counts how many bytes an `apply` of 10,000 blocks writes for one of their
-records, these among them. Then it times `query /status` five times over a
-store of OPENED blocks (10,000 without a word), over one of a tenth of them, and over an empty one.
+the opening of 2,000,000 outputs, each in turns. Of both openings it tells how much their most
+memory is above what an `apply` holds once it has opened the store, the less of both. It opens such
+a store of version 3 with records of half its body's bytes too, beside one without. Of stores of
+version 3 that begin with nothing, of depth 100 and 1,000, it counts how many bytes an `apply` of
+10,000 blocks writes for one of their records, these among them. Then it times `query /status` five
+times over a store of OPENED blocks (10,000 without a word), over one of a tenth of them, and over
+an empty one.
 PROGRAM is crates/ox_main/out/ox_main without a word. Nothing here is proved. bench/all.py builds
 both programs.
 """
@@ -40,6 +43,7 @@ import termios
 import time
 
 import large_stores
+from checkpoint import memory as memory_of
 from runs import in_another_process, report, run
 from tools.programs import TOP, plain_program, proved_program
 
@@ -68,8 +72,13 @@ SMALL_TURNS, SMALL_GOAL = 60, 0.9
 # the seconds after which it looks again whether lines are answered
 LOOK = 0.0002
 GOAL, MOST_MEMORY, MOST_GROWTH = 0.5, 1.5, 1.3
-# how fast commands should be applied at version 3 by version 2, and how long an opening may take
-SUMMED_GOAL, SUMMED_MOST = 0.95, 1.4
+# how fast commands should be applied at version 3 by version 2, over how many outputs both are
+# opened, and how long that may take and how much memory above the live index
+SUMMED_GOAL = 0.95
+SUMMED_OUTPUTS, SUMMED_MOST, SUMMED_MEMORY = 2_000_000, 1.5, 0.75
+# how many records have half of that body's bytes, how many outputs each of their blocks spends, and
+# how long an opening with them may take beside one without
+HALF_RECORDS, HALF_EACH, HALF_MOST = 250, 2_000, 1.8
 # over how many blocks, at which depths, at most so many bytes are written for one of records
 WRITTEN, DEPTHS, MOST_WRITTEN = 10_000, (100, 1_000), 5
 
@@ -351,7 +360,7 @@ def count_written(program, top):
 
 def compare_openings(program, top):
     """Opens a large store at both versions, in turns."""
-    outputs, kept, records = OUTPUTS[-1], KEPT[0], RECORDS[-1]
+    outputs, kept, records = SUMMED_OUTPUTS, KEPT[0], RECORDS[-1]
     size, folders = f"{outputs:,} outputs, {kept:,} kept, {records} records", {}
     for version in (VERSION, SUMMED):
         folders[version] = folder = top / f"opened at {version}"
@@ -366,14 +375,62 @@ def compare_openings(program, top):
             taken[version].append((seconds, memory))
             if told_by("ox", shown) != made:
                 sys.exit(f"version {version} told {shown}")
+    live = min(live_memory(program, folder) for folder in folders.values())
     (ours, memory), (plain, held) = (min(taken[version]) for version in (SUMMED, VERSION))
+    above, beside = ((most - live) / 1e6 for most in (memory, held))
     print(
         f"{size}: version 3 {ours:.2f} s, version 2 {plain:.2f} s: {ours / plain:.2f} times and at"
-        f" most {SUMMED_MOST}; {memory / 1e6:.0f} and {held / 1e6:.0f} MB",
+        f" most {SUMMED_MOST}; {memory / 1e6:.0f} and {held / 1e6:.0f} MB, {above:.0f} and"
+        f" {beside:.0f} above {live / 1e6:.0f}: {above / beside:.2f} times and at most"
+        f" {SUMMED_MEMORY}",
         flush=True,
     )
     work = "a large store opened, version 3"
     report(work, size, "ms", 1000 * ours, 1000 * plain, 1 / SUMMED_MOST)
+    report(f"{work}, memory above", size, "MB", above, beside, 1 / SUMMED_MEMORY)
+
+
+def compare_records(program, top):
+    """Opens a large store of version 3 without records and with those of half its body, in
+    turns."""
+    outputs, kept, taken = SUMMED_OUTPUTS, KEPT[0], {}
+    stores = {}
+    for records in (0, HALF_RECORDS):
+        folder = top / f"opened with {records}"
+        folder.mkdir()
+        given = folder / "a.ox", outputs, kept, records, SUMMED, HALF_EACH
+        stores[folder] = in_another_process(large_stores.write_store, *given)
+        (folder / "b.ox").write_bytes(CLOSED)
+        taken[folder] = []
+    for _ in range(OPENINGS):
+        for folder, made in stores.items():
+            seconds, _, shown = run([program, folder, "query", "/status"])
+            taken[folder].append(seconds)
+            if told_by("ox", shown) != made:
+                sys.exit(f"{folder} told {shown}")
+    bare, ours = (min(seconds) for seconds in taken.values())
+    body, whole = ((folder / "a.ox").stat().st_size for folder in stores)
+    size = f"{outputs:,} outputs, records of {(whole - body) / body:.2f} of the body"
+    print(
+        f"{size}: {ours:.2f} s, without {bare:.2f} s: {ours / bare:.2f} times and at most"
+        f" {HALF_MOST}",
+        flush=True,
+    )
+    work = "a large store opened, version 3, with records"
+    report(work, size, "ms", 1000 * ours, 1000 * bare, 1 / HALF_MOST)
+
+
+def live_memory(program, folder):
+    """How many bytes an `apply` holds that has opened the store and refused a block."""
+    (block,), _ = chain(1)
+    with applying(program, folder) as child:
+        child.stdin.write(line(block))
+        child.stdin.flush()
+        if not child.stdout.readline().startswith(b"refused "):
+            sys.exit("a block was accepted that doesn't follow the newest")
+        live = memory_of(child, "VmRSS")
+        child.stdin.close()
+    return live
 
 
 def time_query(program, folder, count, tip):
@@ -488,6 +545,7 @@ def main():
         # first, since a child's greatest memory is never below this one's
         open_all_large(program, top)
         compare_openings(program, top)
+        compare_records(program, top)
         compare(program, top, applied)
         compare_versions(program, top)
         count_written(program, top)

@@ -25,11 +25,12 @@ def new_output(chance, height, run):
     return (chance.randbytes(32), 0), Output(script, height, [run])
 
 
-def small_change(chance, height, spent):
-    """What a block changes that spends one output and whose coinbase claims the subsidy."""
+def change_of(chance, height, spent):
+    """What a block changes that spends these outputs, each into one of its own, and whose coinbase
+    claims the subsidy."""
     paid = new_output(chance, height, (height * SUBSIDY, SUBSIDY))
-    moved = new_output(chance, height, *spent[1].sats)
-    return Change(chance.randbytes(32), [spent], sorted([paid, moved]))
+    moved = [new_output(chance, height, *row.sats) for _, row in spent]
+    return Change(chance.randbytes(32), sorted(spent), sorted([paid, *moved]))
 
 
 def front_rows(hashes, outputs):
@@ -53,15 +54,17 @@ def spelled(pair):
     return outpoint(at) + output(row)
 
 
-def write_store(path, outputs, kept, records, version=VERSION):
-    """A file with a checkpoint of so many outputs, so many kept small blocks, and records of so
-    many further ones. How many blocks there are, and the newest."""
+def write_store(path, outputs, kept, records, version=VERSION, each=1):
+    """A file with a checkpoint of so many outputs, so many kept small blocks that spend one of
+    them, and records of so many further ones that spend so many each. How many blocks there are,
+    and the newest."""
     chance = random.Random(5)
     first = outputs // MANY
     runs = ((at // MANY, (at * EACH, EACH)) for at in range(outputs))
     rows = [new_output(chance, height, run) for height, run in runs]
-    spent = rows[: kept + records]
-    changes = [small_change(chance, first + at, row) for at, row in enumerate(spent)]
+    ends = [*range(kept), *range(kept, kept + records * each + 1, each)]
+    spent = [rows[begin:end] for begin, end in zip(ends, ends[1:])]
+    changes = [change_of(chance, first + at, gone) for at, gone in enumerate(spent)]
     hashes = [chance.randbytes(32) for _ in range(first)]
     hashes += [change.hash for change in changes[:kept]]
     came = [row for change in changes[:kept] for row in change.came]

@@ -3,7 +3,7 @@
 
     python3 bench/streams.py
 
-has crates/ox_http_rows and bench/plain/http read two heads again and again; hear a body of
+has crates/ox_block_rows and bench/plain/http read two heads again and again; hear a body of
 4,000,000 bytes in pieces of 65,536, which the plain program also copies twice and does no more; and
 reply to 10,000 and to 100,000 requests of one stream, heard in such pieces and all at once. What
 each program takes to do none of it isn't counted. At last it prints what memory a session keeps
@@ -18,7 +18,7 @@ from runs import RUNS, report, run
 from tools.programs import plain_program, proved_program
 from tools.words import no_words
 
-OX, PLAIN = proved_program("ox_http_rows"), plain_program("http")
+OX, PLAIN = proved_program("ox_block_rows"), plain_program("http")
 PIECE, ALL = 65_536, 1_000_000_000
 SHORT = b"GET /status HTTP/1.1\r\nHost: a\r\n\r\n"
 LONG = (

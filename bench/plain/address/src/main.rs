@@ -1,4 +1,4 @@
-//! The same work as the rows `repeat` of crates/ox_address_rows in plain Rust: segwit addresses written, and read again.
+//! The same work as the rows `repeat` of crates/ox_block_rows in plain Rust: segwit addresses written, and read again.
 use std::io::BufRead;
 
 const LETTERS: &[u8; 32] = b"qpzry9x8gf2tvdw0s3jn54khce6mua7l";

@@ -1,4 +1,4 @@
-//! What crates/ox_http_rows does of rows `often` and `hold`, in plain Rust, to be timed beside it (bench/http.py):
+//! What crates/ox_block_rows does of rows `often` and `hold`, in plain Rust, to be timed beside it (bench/streams.py):
 //! heads by `httparse`, their ends by `memchr`, and sessions that copy each body once. `copy TIMES N PART..` copies a
 //! stream instead, N bytes at a time, and what was gathered once more.
 
