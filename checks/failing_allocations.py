@@ -19,9 +19,9 @@ crates/ox_main, and `rt run < stdin` in crates/ox_index_rows.
   with status 0, and the files stand for what they should; the 64th line behind it turns them.
 - `grow`: the run has to end with 0, or with 8 or 4 and nothing shown; and the files stand for what
   they stood for, until with all memory they grow.
-- `init`, `query`, `drill 2` and `migrate` of the same program: each has to end so too, and to show
-  its line whole or nothing. After 8 the files are as before, but of a drill, which leaves those of
-  some of its first commands; and with all memory each is carried out then.
+- `init`, `query` at both versions, `drill 2` and `migrate` of the same program: each has to end so
+  too, and to show its line whole or nothing. After 8 the files are as before, but of a drill, which
+  leaves those of some of its first commands; and with all memory each is carried out then.
 - `serve` of two links, of which the operator's posts a block: the run has to end with 8 before
   anybody is served, or each link gets its replies, but for one, which is 503 and shuts its link.
   The files are as before where that is the block's, and those that the block leaves elsewhere.
@@ -58,8 +58,8 @@ from rows import address_rows, hash_text, plain, reveal
 from rows.holder_rows import FIRST, address_tree
 from rows.index_rows import Full, Held, Indexes, runes_of_mainnet
 from rows.scenarios import ETCHES, MINTS_AND_BURNS
-from store_files import CLOSED, MOST_RECORDS, bytes_in, files_after_each, files_of, stands
-from store_files import summed_store_of
+from store_files import CLOSED, MOST_RECORDS, SUMMED, bytes_in, files_after_each, files_of
+from store_files import stands, summed_store_of
 from tools.bitcoin import SUBSIDY, twice
 from tools.programs import TOP, proved_program
 from tools.words import words_of
@@ -272,16 +272,28 @@ def others_in_turn(program, memory, top):
     (old / "a.ox").write_bytes(old_files.old_file_of(map(payload_of, chain(3)[0])))
     (old / "b.ox").write_bytes(CLOSED)
     filled = made(program, top / "filled", lab_chain())
+    summed = grown(program, copy(filled, top / "summed"), lab_chain()[-2:])
     drill = list(files_after_each(made_blocks.drill_commands(2)))
     for words, first, may_leave in (
         (["init", "lab", "100"], empty, []),
         (["query", "/audit"], filled, []),
+        (["query", "/audit"], summed, []),
         (["drill", "2"], empty, drill),
         (["migrate"], old, []),
     ):
         in_turn(program, memory, top, words, first, may_leave)
-    for folder in (empty, old, filled):
+    for folder in (empty, old, filled, summed):
         shutil.rmtree(folder)
+
+
+def grown(program, folder, lines):
+    """The store in a folder at version 3, with records of these lines."""
+    for words, feed in ((["grow"], b""), (["apply"], b"".join(lines))):
+        ran = subprocess.run([program, folder, *words], input=feed, stdout=subprocess.PIPE)
+        demand(ran.returncode == 0, f"{words[0]} ended with {ran.returncode}")
+    _, tail = stands(dict(zip("AB", files(folder))))
+    demand((tail.version, tail.records) == (SUMMED, len(lines)), f"{folder}: {tail}")
+    return folder
 
 
 def files_if_any(folder):

@@ -10,15 +10,13 @@ made, and the last line counts them.
 
 import sys
 
-from rows import address_rows, block_rows, http_rows, index_rows, run_rows
+from rows import block_rows, index_rows, run_rows
 from tools.programs import CRATES
 from tools.words import words_of
 
 # for each program what makes its rows and lines
 MAKERS = {
-    "ox_address_rows": address_rows.made,
     "ox_block_rows": block_rows.made,
-    "ox_http_rows": http_rows.made,
     "ox_index_rows": index_rows.made,
     "ox_run_rows": run_rows.made,
 }

@@ -1191,6 +1191,37 @@ def lying_in_files(ox):
             ox.wants(wanted, *words, preexec_fn=little)
 
 
+def lying_summed():
+    """The same of version 3, for lengths from 4 GiB on: sums are of what is told."""
+    (block,), _ = chain(1)
+    payload = payload_on(store_of([payload_of(block)]).stack.kept[0].change)
+    layout = store_files.LAYOUTS[store_files.SUMMED]
+    body_at, gate = layout.body_at, len(EMPTY_SUMMED) - 1
+    body, generation = EMPTY_SUMMED[body_at:gate], EMPTY_SUMMED[10:18]
+    place = store_files.number(gate, 8)
+    for length in (1 << 32, (1 << 32) + len(body), 1 << 40, (1 << 63) - 1, (1 << 64) - 1):
+        told = store_files.number(length, 8)
+        front = EMPTY_SUMMED[1:18] + told
+        yield b"\1" + front + layout.sums(front, body) + EMPTY_SUMMED[body_at:], body_at
+        record = told + layout.record_sum(generation, place, told, payload) + payload
+        yield EMPTY_SUMMED[:gate] + b"\1" + record + b"\0", gate
+
+
+@every.check(
+    "status 3, and not 8: files of version 3 whose lengths tell 4 GiB and more, in little memory"
+)
+def lying_in_summed(ox):
+    for a, place in lying_summed():
+        demand(store_faults.place_of(a) == f"A at {place}", f"docs/FORMATS.md says not {place}")
+        ox.write(a, EMPTY_B)
+        for words in (("query", "/status"), *((word,) for word in OPENING)):
+            told = 6 if words in (("grow",), ("migrate",)) else place
+            is_silent = words in (("lead",), ("follow",))
+            wanted = b"" if is_silent else f"not a store a {told}\n".encode()
+            ox.wants((3, wanted), *words, preexec_fn=little)
+        ox.has(a, EMPTY_B)
+
+
 @every.check("status 4: a folder or a file that can't be opened")
 def cannot_open(ox):
     (ox.folder / "a.ox").mkdir()

@@ -24,6 +24,7 @@ from tools.words import no_words
 BYTES = {"mainnet": 0, "regtest": 1, "lab": 2}
 # what a store is made in, and the one with sums
 VERSION, SUMMED = 2, 3
+PRESENT = VERSION, SUMMED
 # where a body of version 1 or 2 begins
 BODY_AT = 26
 # how many records a file has when the other one takes its place: at version 2 at the least, at
@@ -285,12 +286,12 @@ def records(data, place):
     return found, place, place < len(data)
 
 
-def stands(files, grows=False):
-    """The stack that two files stand for, and the tail of their records; where they are to grow, as
-    a store of version 2 that another file can follow."""
+def stands(files, reads=PRESENT, grows=False):
+    """The stack that two files stand for where these versions are read, and the tail of their
+    records; where they are to grow, as a store that another file can follow."""
     file = current(files)
     data = bytes(files[file])
-    if data[6] not in ((VERSION,) if grows else (VERSION, SUMMED)):
+    if data[6] not in reads:
         raise NoStore(f"{file} at 6")
     if grows and number_in(data, 10, 8) == GREATEST:
         raise NoStore(f"{file} at 10")
@@ -464,7 +465,7 @@ def make(disk, profile="regtest", depth=100):
 
 def grown(disk):
     """Makes a disk's store of version 2 one of version 3; answers it."""
-    store = Store(disk, *stands(disk.files, grows=True))
+    store = Store(disk, *stands(disk.files, (VERSION,), grows=True))
     store.grow()
     return store
 
