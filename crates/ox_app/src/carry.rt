@@ -49,7 +49,7 @@ fn refuse(alloc: Global, store: Store, refusal: Refusal) -> Result<CarriedLine, 
 }
 
 /// Commits a command that is prepared, and answers it in memory that was taken before.
-fn commit<S: Site>(ready: Ready, room: Room, site: &mut S) -> Result<CarriedLine, Stop>
+fn commit<S: Site>(ready: Ready, room: Room<u8>, site: &mut S) -> Result<CarriedLine, Stop>
     requires empty { room.filled ≡ [] }
     requires spare { 79 ≤ room.spare }
     requires holds { IsTrue (S.told site.old) → Holds S.Site ready.tail site.old }

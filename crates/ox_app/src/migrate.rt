@@ -36,7 +36,7 @@ const LONGEST_OLD: usize = 25;
 
 /// The line that tells how many commands were carried out, in memory that was taken before.
 #[tactic(auto, unfolding(crate::specs::Migrate::migrated_line))]
-fn migrated_line(room: Room, commands: u64) -> Bytes
+fn migrated_line(room: Room<u8>, commands: u64) -> Bytes
     requires empty { room.filled ≡ [] }
     requires spare { 24 ≤ room.spare }
     ensures { result ≡ migrated_line commands }

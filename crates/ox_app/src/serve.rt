@@ -34,7 +34,7 @@ const LONGEST_TOTALS: usize = 56;
 
 /// The line that tells what was counted, in memory that was taken before.
 #[tactic(auto, unfolding(crate::specs::Serve::totals_line))]
-fn totals_line(room: Room, totals: Totals) -> Bytes
+fn totals_line(room: Room<u8>, totals: Totals) -> Bytes
     requires empty { room.filled ≡ [] }
     requires spare { 56 ≤ room.spare }
     ensures { result ≡ totals_told totals.requests totals.hits }
@@ -60,7 +60,13 @@ fn fault_of(fault: ServeFault) -> Status
 }
 
 /// Serves by a store that was opened, and tells what was counted.
-fn serve_by<S: Site>(alloc: Global, room: Room, store: Store, turns: u64, site: &mut S) -> Status
+fn serve_by<S: Site>(
+    alloc: Global,
+    room: Room<u8>,
+    store: Store,
+    turns: u64,
+    site: &mut S,
+) -> Status
     requires empty { room.filled ≡ [] }
     requires spare { 56 ≤ room.spare }
     requires some { 1 ≤ turns }

@@ -10,7 +10,7 @@ pub record Place : Type 0 where
 abbrev pub GoesOver : List ℕ → Place → Place → Type 0
 GoesOver text old new = (old.left ≡ text ++ new.left) × (new.place ≡ old.place + length text)
 
--- bytes, and how many more may be put behind them
-pub record Space : Type 0 where
-  pub filled : List ℕ
+-- bytes or other values, and how many more may be put behind them
+pub record Space (A : Type 0) : Type 0 where
+  pub filled : List A
   pub spare : ℕ

@@ -21,8 +21,8 @@ const LONGEST_REPLY: usize = 254;
 /// Memory for the reply to a command that is accepted.
 #[derive(Drop)]
 pub struct Rooms {
-    body: Room,
-    reply: Room,
+    body: Room<u8>,
+    reply: Room<u8>,
     ghost empty: { (body.filled ≡ []) × (reply.filled ≡ []) },
     ghost enough: { (95 ≤ body.spare) × (254 ≤ reply.spare) },
 }
@@ -38,7 +38,7 @@ impl Rooms {
 
 /// Puts the body that tells a block. A hash is printed in reversed order.
 #[tactic(auto, unfolding(ox_rules::specs::Text::hash_text))]
-fn put_block(room: &mut Room, height: u32, hash: [u8; 32])
+fn put_block(room: &mut Room<u8>, height: u32, hash: [u8; 32])
     requires { 95 ≤ room.old.spare }
     ensures filled { room.new.filled
         ≡ room.old.filled ++ compact_text (newest_tree (Some (height, hash))) }
@@ -57,7 +57,7 @@ fn put_block(room: &mut Room, height: u32, hash: [u8; 32])
 }
 
 /// Puts the body that tells the newest block, or that there is none.
-fn put_newest(room: &mut Room, tip: Option<(u32, [u8; 32])>)
+fn put_newest(room: &mut Room<u8>, tip: Option<(u32, [u8; 32])>)
     requires { 95 ≤ room.old.spare }
     ensures filled { room.new.filled ≡ room.old.filled ++ compact_text (newest_tree tip) }
     ensures short { length room.new.filled ≤ length room.old.filled + 95 }

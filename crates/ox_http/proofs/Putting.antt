@@ -4,7 +4,7 @@ use Rattle.ox_bytes.specs.Place.{Space}
 use Rattle.ox_http.specs.Written.{Puts}
 
 -- two puts are one
-pub Puts-then : {a b : List ℕ} {m n : ℕ} {x y z : Space} → Puts a m x y → Puts b n y z
+pub Puts-then : {a b : List ℕ} {m n : ℕ} {x y z : Space ℕ} → Puts a m x y → Puts b n y z
     → Puts (a ++ b) (m + n) x z
 Puts-then {a = a} {b = b} {x = x} first second = record {
   filled = second.filled ∙ ap (λ front. front ++ b) first.filled ∙ append_assoc x.filled a b;
@@ -12,5 +12,5 @@ Puts-then {a = a} {b = b} {x = x} first second = record {
 }
 
 -- room for more does no harm
-pub Puts-most : {a : List ℕ} {m : ℕ} {x y : Space} → Puts a m x y → (n : ℕ) → m ≤ n → Puts a n x y
+pub Puts-most : {a : List ℕ} {m : ℕ} {x y : Space ℕ} → Puts a m x y → (n : ℕ) → m ≤ n → Puts a n x y
 Puts-most put n h = record { filled = put.filled; spare = omega arith }

@@ -74,7 +74,7 @@ most_written reply =
     143 + length reply.kind + encoding_length reply.encoding + length reply.body
 
 -- bytes are put at a place's end, into at most so many of the spare ones
-pub record Puts (bytes : List ℕ) (most : ℕ) (old new : Space) : Type 0 where
+pub record Puts (bytes : List ℕ) (most : ℕ) (old new : Space ℕ) : Type 0 where
   pub filled : new.filled ≡ old.filled ++ bytes
   pub spare : old.spare ≤ new.spare + most
 

@@ -69,14 +69,14 @@ fn phrase(status: u16) -> &'static [u8]
 }
 
 /// Puts bytes.
-fn put(room: &mut Room, bytes: &[u8])
+fn put(room: &mut Room<u8>, bytes: &[u8])
     requires { length bytes.now ≤ room.old.spare }
     ensures { Puts bytes.now (length bytes.now) room.old room.new }
 {
     room.put(bytes);
 }
 
-fn put_status(room: &mut Room, status: u16)
+fn put_status(room: &mut Room<u8>, status: u16)
     requires { 48 ≤ room.old.spare }
     ensures { Puts (status_line status) 48 room.old room.new }
 {
@@ -87,7 +87,7 @@ fn put_status(room: &mut Room, status: u16)
     room.put(b"\r\n");
 }
 
-fn put_kind(room: &mut Room, kind: &[u8])
+fn put_kind(room: &mut Room<u8>, kind: &[u8])
     requires { length kind.now + 16 ≤ room.old.spare }
     ensures { Puts (kind_line kind.now) (length kind.now + 16) room.old room.new }
 {
@@ -96,7 +96,7 @@ fn put_kind(room: &mut Room, kind: &[u8])
     put(room, b"\r\n");
 }
 
-fn put_some_encoding(room: &mut Room, encoding: &[u8])
+fn put_some_encoding(room: &mut Room<u8>, encoding: &[u8])
     requires { length encoding.now + 20 ≤ room.old.spare }
     ensures { Puts (encoding_line (Some encoding.now)) (length encoding.now + 20)
         room.old room.new }
@@ -106,7 +106,7 @@ fn put_some_encoding(room: &mut Room, encoding: &[u8])
     put(room, b"\r\n");
 }
 
-fn put_encoding(room: &mut Room, encoding: Option<&[u8]>)
+fn put_encoding(room: &mut Room<u8>, encoding: Option<&[u8]>)
     requires { encoding_length (option_copied encoding) + 20 ≤ room.old.spare }
     ensures { Puts (encoding_line (option_copied encoding.entry))
         (encoding_length (option_copied encoding.entry) + 20) room.old room.new }
@@ -117,7 +117,7 @@ fn put_encoding(room: &mut Room, encoding: Option<&[u8]>)
     }
 }
 
-fn put_close(room: &mut Room, close: bool)
+fn put_close(room: &mut Room<u8>, close: bool)
     requires { 19 ≤ room.old.spare }
     ensures { Puts (close_line close) 19 room.old room.new }
 {
@@ -126,7 +126,7 @@ fn put_close(room: &mut Room, close: bool)
     }
 }
 
-fn put_length(room: &mut Room, len: usize)
+fn put_length(room: &mut Room<u8>, len: usize)
     requires { 38 ≤ room.old.spare }
     ensures { Puts (length_line len) 38 room.old room.new }
 {
@@ -135,7 +135,7 @@ fn put_length(room: &mut Room, len: usize)
     room.put(b"\r\n");
 }
 
-fn put_head(room: &mut Room, parts: ReplyParts, close: bool)
+fn put_head(room: &mut Room<u8>, parts: ReplyParts, close: bool)
     requires { most_written (reply_of parts close) ≤ room.old.spare + length parts.body.now }
     ensures { Puts
         (written_head parts.entry.status parts.entry.kind.now (option_copied parts.entry.encoding)
@@ -154,7 +154,7 @@ fn put_head(room: &mut Room, parts: ReplyParts, close: bool)
 /// Puts a reply of borrowed parts, with which the link ends where `close` is so, behind what is in
 /// the room. It takes no memory: room for 143 bytes beside the kind, the encoding and the body is
 /// enough.
-pub fn put_reply(room: &mut Room, parts: ReplyParts, close: bool)
+pub fn put_reply(room: &mut Room<u8>, parts: ReplyParts, close: bool)
     requires { most_written (reply_of parts close) ≤ room.old.spare }
     ensures { Puts (written (reply_of parts.entry close))
         (most_written (reply_of parts.entry close)) room.old room.new }
@@ -164,7 +164,7 @@ pub fn put_reply(room: &mut Room, parts: ReplyParts, close: bool)
 }
 
 /// Room that is enough for a reply.
-fn room_for(alloc: Global, parts: ReplyParts) -> Result<Room, Memory>
+fn room_for(alloc: Global, parts: ReplyParts) -> Result<Room<u8>, Memory>
     ensures empty { IfOk result (λ room. room.filled ≡ []) }
     ensures enough { IfOk result (λ room.
         most_written (reply_of parts.entry false) ≤ room.spare) }

@@ -9,5 +9,4 @@ pub mod Opened
 pub mod Plain
 pub mod Room
 pub mod Script
-pub mod Story
 pub mod World

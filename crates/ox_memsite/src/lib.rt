@@ -11,7 +11,6 @@ mod replay;
 mod said;
 mod site;
 mod step;
-mod steps;
 
 pub use crash::Choice;
 pub use said::Said;

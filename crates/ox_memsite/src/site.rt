@@ -15,8 +15,7 @@ use crate::places::{broken_channels, count_channels};
 use crate::said::Script;
 use crate::site::log::most_owed;
 use crate::step::Step;
-use crate::steps::Steps;
-use ox_bytes::Memory;
+use ox_bytes::{Memory, Room};
 use ox_outside::Which;
 use std::alloc::Global;
 use std::collections::VecDeque;
@@ -34,7 +33,7 @@ pub struct MemSite {
     a: Vec<u8>,
     b: Vec<u8>,
     past: Vec<Step>,
-    steps: Steps,
+    steps: Room<Step>,
     input: Vec<u8>,
     heard: usize,
     channels: Vec<Channel>,
@@ -60,7 +59,7 @@ impl Model for MemSite {
     ghost view = { λ s. record {
       first = record { a = s.first_a.items; b = s.first_b.items };
       past = events_of s.past.items;
-      steps = s.steps.steps;
+      steps = s.steps.filled;
       input = drop s.heard s.input.items;
       channels = s.channels.items;
       at_public = s.at_public.items;
@@ -75,7 +74,7 @@ impl Model for MemSite {
     } };
 
     ghost invariant = { λ s. IsKept (record { a = s.first_a.items; b = s.first_b.items })
-        s.a.items s.b.items s.past.items s.steps.steps s.broken.items (length s.channels.items)
+        s.a.items s.b.items s.past.items s.steps.filled s.broken.items (length s.channels.items)
         s.steps.spare s.heard (vec_len s.input) };
 }
 
@@ -171,7 +170,7 @@ fn restart(alloc: Global, a: Vec<u8>, b: Vec<u8>, past: Vec<Step>) -> Result<Mem
         first_b: Vec::from_slice(alloc, &b)?,
         a,
         b,
-        steps: Steps::new(alloc, most_owed(count))?,
+        steps: Room::new(alloc, most_owed(count))?,
         input: Vec::new(alloc),
         heard: 0,
         channels: silent_channels(alloc, count)?,

@@ -22,7 +22,7 @@ pub fn empty_line() -> &'static [u8]
 
 /// Puts the line of a newest block.
 #[tactic(auto, unfolding(crate::specs::Text::block_line))]
-fn put_block_line(room: &mut Room, height: u32, hash: &[u8; 32])
+fn put_block_line(room: &mut Room<u8>, height: u32, hash: &[u8; 32])
     requires { 79 ≤ room.old.spare }
     ensures { room.new.filled ≡ room.old.filled ++ block_line height hash.now }
 {
@@ -36,7 +36,7 @@ fn put_block_line(room: &mut Room, height: u32, hash: &[u8; 32])
 /// The line of an accepted command, in memory that was taken before: `ok`, the height and the hash
 /// of the newest block, or `ok empty`, and a line feed. The hash is printed in reversed order. The
 /// room is empty and has `LONGEST_OK` bytes to spare, so nothing can fail.
-pub fn ok_line_in(room: Room, tip: Option<(u32, [u8; 32])>) -> Bytes
+pub fn ok_line_in(room: Room<u8>, tip: Option<(u32, [u8; 32])>) -> Bytes
     requires empty { room.filled ≡ [] }
     requires spare { 79 ≤ room.spare }
     ensures { result ≡ tip_line tip }

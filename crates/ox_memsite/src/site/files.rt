@@ -104,7 +104,7 @@ impl MemSite {
         let copy = Bytes::copy(self.alloc, bytes)?;
         make_room(&mut self.steps, self.channels.len())?;
         write_one(&mut self.a, &mut self.b, file, at, bytes)?;
-        self.steps.put(Step::Wrote {
+        self.steps.push(Step::Wrote {
             file,
             at,
             bytes: copy,

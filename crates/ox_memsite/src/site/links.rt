@@ -27,8 +27,7 @@ use crate::channel::{
 use crate::edits::put_at;
 use crate::said::{Said, Script};
 use crate::step::Step;
-use crate::steps::Steps;
-use ox_bytes::{Bytes, Memory};
+use ox_bytes::{Bytes, Memory, Room};
 use ox_outside::{Doorway, Failed, Heard, Shown};
 use std::alloc::Global;
 use std::collections::VecDeque;
@@ -132,7 +131,7 @@ impl MemSite {
         requires once { has_given_up channel (log_of self.old) ≡ false }
         ensures { self.new ≡ after_step (GaveUp channel) self.old }
     {
-        self.steps.put(Step::GaveUp { channel });
+        self.steps.push(Step::GaveUp { channel });
     }
 
     /// Logs that a link was shut.
@@ -140,7 +139,7 @@ impl MemSite {
         requires { IsTrue (is_open channel (log_of self.old)) }
         ensures { self.new ≡ after_step (Shut channel) self.old }
     {
-        self.steps.put(Step::Shut { channel });
+        self.steps.push(Step::Shut { channel });
     }
 
     /// A channel that is there has its place among the channels.
@@ -183,7 +182,7 @@ impl MemSite {
         make_place(&mut self.channels, &mut self.broken, &mut self.steps)?;
         let script = take_first(&mut self.at_public, &mut self.at_operator, door);
         put_channel(&mut self.channels, &mut self.broken, script);
-        self.steps.put(Step::Opened {
+        self.steps.push(Step::Opened {
             channel: number,
             door,
         });
@@ -241,7 +240,7 @@ impl MemSite {
         requires whole { has_broken channel (log_of self.old) ≡ false }
         ensures { self.new ≡ after_step (Broke channel) self.old }
     {
-        self.steps.put(Step::Broke { channel });
+        self.steps.push(Step::Broke { channel });
         self.broken[channel as usize] = true;
     }
 
@@ -324,7 +323,7 @@ fn say_input(alloc: Global, input: &[u8], heard: &mut usize, room: usize) -> Res
 
 /// Notes what a channel said, and puts its bytes into the front of the room.
 fn note_said(
-    steps: &mut Steps,
+    steps: &mut Room<Step>,
     channels: &mut [Channel],
     channel: u32,
     said: Said,
@@ -335,7 +334,7 @@ fn note_said(
     requires fits { length (bytes_of said) ≤ length into.old }
     ensures answer { result ≡ answer_of said }
     ensures front { into.new ≡ bytes_of said ++ drop (length (bytes_of said)) into.old }
-    ensures steps { steps.new.steps ≡ steps_with channel said steps.old.steps }
+    ensures steps { steps.new.filled ≡ steps_with channel said steps.old.filled }
     ensures spare { steps.old.spare ≤ steps.new.spare + 1 }
     ensures channels { channels.new ≡ channels_with channel said channels.old }
 {
@@ -343,7 +342,7 @@ fn note_said(
         Said::Bytes(bytes) => {
             put_at(into, 0, bytes.as_slice());
             let count = bytes.len();
-            steps.put(Step::Heard { channel, bytes });
+            steps.push(Step::Heard { channel, bytes });
             Heard::Bytes(count)
         }
         Said::NotYet => {
@@ -351,7 +350,7 @@ fn note_said(
             Heard::NotYet
         }
         Said::End => {
-            steps.put(Step::Ended { channel });
+            steps.push(Step::Ended { channel });
             Heard::End
         }
     }
@@ -380,12 +379,12 @@ fn take_first(
 fn make_place(
     channels: &mut Vec<Channel>,
     broken: &mut Vec<bool>,
-    steps: &mut Steps,
+    steps: &mut Room<Step>,
 ) -> Result<(), Memory>
     requires { length channels.old.items ≤ 4294967296 }
     ensures channels { channels.new.items ≡ channels.old.items }
     ensures broken { broken.new.items ≡ broken.old.items }
-    ensures steps { steps.new.steps ≡ steps.old.steps }
+    ensures steps { steps.new.filled ≡ steps.old.filled }
     ensures room { OnOk result (vec_len channels.new < vec_capacity channels.new) }
     ensures room_flag { OnOk result (vec_len broken.new < vec_capacity broken.new) }
     ensures ok { OnOk result (steps.new.spare ≡ 3 * (length channels.old.items + 1) + 1) }

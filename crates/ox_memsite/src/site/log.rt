@@ -8,8 +8,7 @@ ghost use Rattle.ox_memsite.specs.Plain.{IsPlain};
 use super::MemSite;
 use crate::crash::append_shown;
 use crate::step::Step;
-use crate::steps::Steps;
-use ox_bytes::{Bytes, Memory};
+use ox_bytes::{Bytes, Memory, Room};
 
 impl MemSite {
     /// The moment: how much has happened.
@@ -37,16 +36,16 @@ impl MemSite {
         ensures err { OnErr result (self.new ≡ self.old) }
     {
         make_room(&mut self.steps, self.channels.len())?;
-        self.steps.put(step);
+        self.steps.push(step);
         Ok(())
     }
 }
 
 /// Makes room for a step, and for those that may come of so many channels and can't be refused.
 /// `Memory` where there is none: nothing has changed then.
-pub(super) fn make_room(steps: &mut Steps, count: usize) -> Result<(), Memory>
+pub(super) fn make_room(steps: &mut Room<Step>, count: usize) -> Result<(), Memory>
     requires { count ≤ 4294967297 }
-    ensures steps { steps.new.steps ≡ steps.old.steps }
+    ensures steps { steps.new.filled ≡ steps.old.filled }
     ensures ok { OnOk result (steps.new.spare ≡ 3 * count + 1) }
     ensures err { OnErr result (steps.new.spare ≡ steps.old.spare) }
 {

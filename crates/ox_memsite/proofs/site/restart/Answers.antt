@@ -16,6 +16,6 @@ invariant_of-result c =
     kept_first c.args.past.items c.count_channels-count.result _ _ _ _ _ _ _ _
     (sym (c.in_ok-from_slice.ensures.items ∙ c.deref-2.ensures.value))
     (sym (c.in_ok-from_slice-2.ensures.items ∙ c.deref-3.ensures.value))
-    is c.count_channels-count.ensures.few (omega (arith, c.in_ok-new.ensures.spare, c.most_owed.ensures)) c.in_ok-new.ensures.steps
+    is c.count_channels-count.ensures.few (omega (arith, c.in_ok-new.ensures.spare, c.most_owed.ensures)) c.in_ok-new.ensures.filled
     (c.in_ok-broken_channels.ensures ∙ ap (λ (l : List Step). flags_after l (replicate c.count_channels-count.result false)) c.deref-4.ensures.value)
     (ap length c.in_ok-silent_channels.ensures ∙ length-replicate c.count_channels-count.result silent_channel)

@@ -7,4 +7,4 @@ use Rattle.ox_memsite.proofs.site.MemSite.note.Goals as goal
 pub invariant_of-self-2 : goal.invariant_of-self-2
 invariant_of-self-2 c =
     let plain = subst (λ (w : World). IsPlain (length w.channels) c.args.step) (sym c.self.view_is) c.requires in
-    kept_plain _ _ _ _ _ _ _ _ _ _ c.self.invariant c.args.step _ _ plain (pushed _ _ _ _ _ c.put.ensures.steps c.in_ok-make_room.ensures.steps refl) (omega (arith, c.put.ensures.spare, c.in_ok-make_room.ensures.ok))
+    kept_plain _ _ _ _ _ _ _ _ _ _ c.self.invariant c.args.step _ _ plain (pushed _ _ _ _ _ c.push.ensures.filled c.in_ok-make_room.ensures.steps refl) (omega (arith, c.push.ensures.spare, c.in_ok-make_room.ensures.ok))

@@ -5,7 +5,7 @@ use Rattle.ox_memsite.proofs.site.MemSite.note_write.Goals as goal
 
 pub invariant_of-self-2 : goal.invariant_of-self-2
 invariant_of-self-2 c =
-    kept_write _ _ _ _ _ _ _ _ _ _ c.self.invariant c.args.file c.args.at c.args.bytes.now _ _ _ _ (pushed _ _ _ _ _ c.put.ensures.steps c.in_ok-make_room.ensures.steps (ap (λ (l : List ℕ). Wrote c.args.file c.args.at l) c.in_ok-copy.ensures)) c.in_ok-write_one.ensures.a c.in_ok-write_one.ensures.b (omega (arith, c.put.ensures.spare, c.in_ok-make_room.ensures.ok))
+    kept_write _ _ _ _ _ _ _ _ _ _ c.self.invariant c.args.file c.args.at c.args.bytes.now _ _ _ _ (pushed _ _ _ _ _ c.push.ensures.filled c.in_ok-make_room.ensures.steps (ap (λ (l : List ℕ). Wrote c.args.file c.args.at l) c.in_ok-copy.ensures)) c.in_ok-write_one.ensures.a c.in_ok-write_one.ensures.b (omega (arith, c.push.ensures.spare, c.in_ok-make_room.ensures.ok))
 
 pub invariant_of-self-in_err-write_one : goal.invariant_of-self-in_err-write_one
 invariant_of-self-in_err-write_one c =

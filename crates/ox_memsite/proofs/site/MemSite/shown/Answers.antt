@@ -8,7 +8,7 @@ use Rattle.ox_memsite.proofs.site.MemSite.shown.Goals as goal
 pub returns : goal.returns
 returns c =
     let past = c.self.inside.past.items in
-    let steps = c.self.inside.steps.steps in
+    let steps = c.self.inside.steps.filled in
     let shown = λ (l : List Step). shown_bytes c.args.channel (events_of l) in
     let first : c.append_shown.new.into ≡ shown past =
     c.in_ok-append_shown.ensures ∙ ap (λ (l : List ℕ). l ++ shown c.deref.result.now) c.empty-bytes.ensures ∙ ap shown c.deref.ensures.value in
