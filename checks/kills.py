@@ -39,6 +39,8 @@ from tools.words import words_of
 PROGRAM = proved_program("ox_main")
 LINES = 300
 DEPTH = 5
+# how many seconds a file may take to grow by what a line writes
+LONGEST_GROWTH = 1
 
 
 # What a store tells of itself: how many blocks it has and keeps, and the newest one's hash as it is
@@ -112,22 +114,23 @@ def size_of(folder):
 
 
 def wait_for(child, folder, when):
-    """Waits for the moment, or until the program has ended."""
+    """Waits for the moment, or until the program has ended; for a file that grows not for long,
+    since it may have grown before."""
     shown = folder / "shown"
     while child.poll() is None and shown.read_bytes().count(b"\n") < when.lines:
         time.sleep(0.0002)
-    size = size_of(folder)
+    size, last = size_of(folder), time.monotonic() + LONGEST_GROWTH
     while when.grows and child.poll() is None and size_of(folder) <= size:
-        pass
+        if time.monotonic() > last:
+            break
     time.sleep(when.seconds)
 
 
-def apply_and_kill(program, folder, feed, first, when):
-    """Applies the feed from this line on, waits for the moment and kills the program. Answers what
-    it showed, and whether it was still running."""
+def apply_and_kill(program, folder, given, when):
+    """Applies the feed on this stream, waits for the moment and kills the program. Answers what it
+    showed, and whether it was still running."""
     shown = folder / "shown"
-    with open(feed.path, "rb", buffering=0) as given, open(shown, "wb") as taken:
-        given.seek(feed.places[first])
+    with open(shown, "wb") as taken:
         child = subprocess.Popen(
             [program, folder, "apply"], stdin=given, stdout=taken, stderr=subprocess.DEVNULL
         )
@@ -232,7 +235,9 @@ def in_turn(chance, lines, opening):
 def kill_once(program, folder, feed, before, store, when, met):
     """Applies and kills once, and tests what is left: the store has heard so many lines. Answers
     how many it has then, and how long it took to open it."""
-    shown, was_killed = apply_and_kill(program, folder, feed, before, when)
+    with open(feed.path, "rb", buffering=0) as given:
+        given.seek(feed.places[before])
+        shown, was_killed = apply_and_kill(program, folder, given, when)
     answers = b"".join(feed.answers[before:])
     demand(answers.startswith(shown), "other lines were shown than `fold` shows")
     lines = shown.count(b"\n")

@@ -14,6 +14,8 @@ minutes.
 """
 
 import collections
+import contextlib
+import fcntl
 import itertools
 import json
 import os
@@ -319,13 +321,15 @@ def killed_turns(ox):
     ox.write(*bytes_in(store))
     heard = kills = 0
     while store.tail.generation <= TURNS or kills < TURN_KILLS:
-        demand(heard < len(commands), f"the feed has ended behind {kills} kills")
+        demand(heard < len(commands), f"the commands have ended behind {kills} kills")
         lines = lines_to_turn(store, commands[heard:]) - 1
         # the line that turns the files, and two behind it
-        feed = FeedFile(ox.folder / "feed", commands[heard : heard + lines + 3])
+        feed = map(line_of, commands[heard : heard + lines + 3])
         when = Moment(lines, chance.random() < 0.3, chance.uniform(0, 0.001))
-        shown, was_killed = apply_and_kill(ox.program, ox.folder, feed, 0, when)
-        kills += was_killed
+        with endless(b"".join(feed)) as given:
+            shown, was_killed = apply_and_kill(ox.program, ox.folder, given, when)
+        demand(was_killed, "it has ended, though its feed hasn't")
+        kills += 1
         answered = shown.count(b"\n")
         made = made_of(store, commands[heard:], answered, ox.files())
         demand(made is not None, f"the files have other bytes behind {heard + answered} lines")
@@ -337,13 +341,18 @@ def killed_turns(ox):
         demand(told == (len(store.stack.hashes()), len(store.stack.kept), tip), f"it told {told}")
 
 
-class FeedFile:
-    """A feed in a file, and where each of its lines begins."""
-
-    def __init__(self, path, commands):
-        lines = [line_of(command) for command in commands]
-        path.write_bytes(b"".join(lines))
-        self.path, self.places = path, [0, *itertools.accumulate(map(len, lines))]
+@contextlib.contextmanager
+def endless(front):
+    """A stream that begins with these bytes, and on which more could come: whoever reads them waits
+    behind them."""
+    read, write = os.pipe()
+    try:
+        fcntl.fcntl(write, fcntl.F_SETPIPE_SZ, len(front))
+        demand(os.write(write, front) == len(front), "the pipe doesn't take all bytes")
+        yield read
+    finally:
+        os.close(read)
+        os.close(write)
 
 
 def opened(a, b):
