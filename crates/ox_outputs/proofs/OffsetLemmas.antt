@@ -4,7 +4,7 @@ use Rattle.std.specs.Prelude.{IsSome, All}
 use Rattle.std.specs.List.{insert, remove}
 use Rattle.std.proofs.lemmas.Bool.{cases_lt}
 use Rattle.std.proofs.lemmas.Bool.Decides.{nat_tests}
-use Rattle.std.proofs.lemmas.List.Elements.{All-set, All-append, All-take, All-drop, All-cons, All-from_get_or}
+use Rattle.std.proofs.lemmas.List.Elements.{All-append, All-take, All-drop, All-cons, All-from_get_or}
 use Rattle.ox_outputs.specs.Cells.{StartList, start_at, first_at, AreRising, SetsAt, IsLastTo, IsCut, starts_from}
 use Rattle.ox_outputs.proofs.CellLemmas.{place_of, none_some}
 

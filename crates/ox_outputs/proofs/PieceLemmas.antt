@@ -101,8 +101,8 @@ module _ (ats : Vec OutPoint) (marks : Vec Mark) (rows : Vec OutRow) (cells : Li
   pub no_cell : (k : ℕ) → vec_len ats ≤ k → ◌≡◌ {A = Option SlotCell} None (slice_get cells k)
   no_cell k high = sym (slice_get_past cells k (omega (arith, high, outpoints_seen)))
 
-  pub room_seen : (count : ℕ) → count ≡ vec_len ats → (IsTrue (nat_lt count 65536) → length cells < 65536) × (length cells < 65536 → IsTrue (nat_lt count 65536))
-  room_seen count is = let same = is ∙ outpoints_seen in (λ low. omega (arith, ltb-true count 65536 low, same), λ low. lt-ltb count 65536 (omega (arith, low, same)))
+  pub room_seen : (count : ℕ) → count ≡ vec_len ats → (IsTrue (nat_lt count 16384) → length cells < 16384) × (length cells < 16384 → IsTrue (nat_lt count 16384))
+  room_seen count is = let same = is ∙ outpoints_seen in (λ low. omega (arith, ltb-true count 16384 low, same), λ low. lt-ltb count 16384 (omega (arith, low, same)))
 
   -- one cell more
   pub cells_grown : (ats' : List OutPoint) (marks' : List Mark) (rows' : List OutRow) (cell : SlotCell) → ats' ≡ ats.items ++ cell.at ∷ [] → marks' ≡ marks.items ++ cell.mark ∷ [] → rows' ≡ rows.items ++ cell.row ∷ [] → cells_of ats' marks' rows' ≡ cells ++ cell ∷ []
@@ -122,36 +122,36 @@ module _ (ats : Vec OutPoint) (marks : Vec Mark) (rows : Vec OutRow) (cells : Li
 
 -- the cell at a place, where this is its piece
 abbrev in_piece : ℕ → Option Piece → Option SlotCell
-in_piece place = option_and_then (λ (piece : Piece). slice_get piece (place % 65536))
+in_piece place = option_and_then (λ (piece : Piece). slice_get piece (place % 16384))
 
 -- a place with a cell is in a piece
-pub within : (pieces : List Piece) (place : ℕ) → IsSome (cell_among pieces place) → place / 65536 < length pieces
+pub within : (pieces : List Piece) (place : ℕ) → IsSome (cell_among pieces place) → place / 16384 < length pieces
 within pieces place some = ⊎_elim
     (λ low. low)
-    (λ high. absurd (none_from (λ (piece : Piece). slice_get piece (place % 65536)) (slice_get pieces (place / 65536)) (slice_get_past pieces (place / 65536) high) some))
-    (cases_lt (place / 65536) (length pieces))
+    (λ high. absurd (none_from (λ (piece : Piece). slice_get piece (place % 16384)) (slice_get pieces (place / 16384)) (slice_get_past pieces (place / 16384) high) some))
+    (cases_lt (place / 16384) (length pieces))
 
 -- a cell of a piece is put in place of another
-pub turned : (pieces : List Piece) (place : ℕ) (piece new : Piece) (was cell : SlotCell) → IsSome (cell_among pieces place) → piece ≡ get_or pieces (place / 65536) piece
-    → slice_get piece (place % 65536) ≡ Some was → new ≡ slice_set piece (place % 65536) cell
-    → Turns pieces (slice_set pieces (place / 65536) new) place cell
+pub turned : (pieces : List Piece) (place : ℕ) (piece new : Piece) (was cell : SlotCell) → IsSome (cell_among pieces place) → piece ≡ get_or pieces (place / 16384) piece
+    → slice_get piece (place % 16384) ≡ Some was → new ≡ slice_set piece (place % 16384) cell
+    → Turns pieces (slice_set pieces (place / 16384) new) place cell
 turned pieces place piece new was cell some is stood cells =
-    let there : slice_get pieces (place / 65536) ≡ Some piece = slice_get_read pieces (length pieces) (place / 65536) piece refl (within pieces place some) is in
+    let there : slice_get pieces (place / 16384) ≡ Some piece = slice_get_read pieces (length pieces) (place / 16384) piece refl (within pieces place some) is in
     record {
-      changed = ap (in_piece place) (got_here pieces (place / 65536) piece new there)
-          ∙ ap (λ (l : List SlotCell). slice_get l (place % 65536)) cells
-          ∙ got_here piece (place % 65536) was cell stood;
+      changed = ap (in_piece place) (got_here pieces (place / 16384) piece new there)
+          ∙ ap (λ (l : List SlotCell). slice_get l (place % 16384)) cells
+          ∙ got_here piece (place % 16384) was cell stood;
       others = λ p other. ⊎_elim
           (λ same.
-          let apart : p % 65536 ≢ place % 65536 = λ e. other (omega (arith, same, e)) in
-          ap (λ (k : ℕ). in_piece p (slice_get (slice_set pieces (place / 65536) new) k)) same
-          ∙ ap (in_piece p) (got_here pieces (place / 65536) piece new there)
-          ∙ ap (λ (l : List SlotCell). slice_get l (p % 65536)) cells
-          ∙ got_elsewhere piece (place % 65536) (p % 65536) cell apart
+          let apart : p % 16384 ≢ place % 16384 = λ e. other (omega (arith, same, e)) in
+          ap (λ (k : ℕ). in_piece p (slice_get (slice_set pieces (place / 16384) new) k)) same
+          ∙ ap (in_piece p) (got_here pieces (place / 16384) piece new there)
+          ∙ ap (λ (l : List SlotCell). slice_get l (p % 16384)) cells
+          ∙ got_elsewhere piece (place % 16384) (p % 16384) cell apart
           ∙ sym (ap (in_piece p) there)
           ∙ sym (ap (λ (k : ℕ). in_piece p (slice_get pieces k)) same))
-          (λ differs. ap (in_piece p) (got_elsewhere pieces (place / 65536) (p / 65536) new differs))
-          (cases_eq (p / 65536) (place / 65536));
+          (λ differs. ap (in_piece p) (got_elsewhere pieces (place / 16384) (p / 16384) new differs))
+          (cases_eq (p / 16384) (place / 16384));
     }
 
 -- ---- all slots
@@ -163,23 +163,23 @@ tabulated f n place none = ⊎_elim
     (cases_lt place n)
 
 -- behind the last piece there is no cell
-none_past : (pieces : List Piece) (place : ℕ) → 65536 * length pieces ≤ place → cell_among pieces place ≡ None
+none_past : (pieces : List Piece) (place : ℕ) → 16384 * length pieces ≤ place → cell_among pieces place ≡ None
 none_past pieces place high =
-    let past : length pieces ≤ place / 65536 = omega (arith, high) in
-    ap (in_piece place) (slice_get_past pieces (place / 65536) past)
+    let past : length pieces ≤ place / 16384 = omega (arith, high) in
+    ap (in_piece place) (slice_get_past pieces (place / 16384) past)
 
 -- the slot at a place
 pub slot_there : (pieces : List Piece) (place : ℕ) → slot_at (slots_of pieces) place ≡ slot_among pieces place
-slot_there pieces place = tabulated (slot_among pieces) (65536 * length pieces) place (λ high. ap (option_and_then slot_in) (none_past pieces place high))
+slot_there pieces place = tabulated (slot_among pieces) (16384 * length pieces) place (λ high. ap (option_and_then slot_in) (none_past pieces place high))
 
-pub slots_count : (pieces : List Piece) → length (slots_of pieces) ≡ 65536 * length pieces
-slots_count pieces = length-map-range_with_len (slot_among pieces) 0 (65536 * length pieces)
+pub slots_count : (pieces : List Piece) → length (slots_of pieces) ≡ 16384 * length pieces
+slots_count pieces = length-map-range_with_len (slot_among pieces) 0 (16384 * length pieces)
 
 pub none_made : (pieces : List Piece) → pieces ≡ [] → slots_of pieces ≡ []
 none_made pieces none = ap slots_of none
 
 -- a place with a cell is low
-pub low_place : (pieces : List Piece) (place : ℕ) → length pieces ≤ 65535 → IsSome (cell_among pieces place) → place < 4294967295
+pub low_place : (pieces : List Piece) (place : ℕ) → length pieces ≤ 262143 → IsSome (cell_among pieces place) → place < 4294967295
 low_place pieces place few some = omega (arith, few, within pieces place some)
 
 -- the slots, where one cell is another
@@ -234,5 +234,5 @@ module _ (pieces : List Piece) (slots : SlotList) (view : slots_of pieces ≡ sl
   updated_there new place cell slot turns is = subst (λ (l : SlotList). Updates l (slots_of new) place slot) view (updated pieces new place cell slot turns is)
 
   -- how far the places go
-  pub end_there : (count : ℕ) → count ≡ length pieces → count * 65536 ≡ length slots
+  pub end_there : (count : ℕ) → count ≡ length pieces → count * 16384 ≡ length slots
   end_there count is = omega (arith, is, slots_count pieces, ap (λ (l : SlotList). length l) view)

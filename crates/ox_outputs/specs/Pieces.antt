@@ -11,7 +11,7 @@ use Rattle.ox_outputs.specs.Slots.{Slot, SlotList}
 -- the cell at a place of pieces
 abbrev pub cell_among : List Piece → ℕ → Option SlotCell
 cell_among pieces place = option_and_then
-    (λ piece. slice_get piece (place % 65536)) (slice_get pieces (place / 65536))
+    (λ piece. slice_get piece (place % 16384)) (slice_get pieces (place / 16384))
 
 -- at one place there is this cell now, and at any other what was there
 pub record Turns (old new : List Piece) (place : ℕ) (cell : SlotCell) : Type 0 where
@@ -21,7 +21,7 @@ pub record Turns (old new : List Piece) (place : ℕ) (cell : SlotCell) : Type 0
 -- this is the number of a piece of which a place was never given out
 abbrev pub HasRoom : List Piece → ℕ → Type 0
 HasRoom pieces number =
-    IsSomeAnd (slice_get pieces number) (λ piece. length piece < 65536)
+    IsSomeAnd (slice_get pieces number) (λ piece. length piece < 16384)
 
 -- the slot at a place of pieces
 abbrev pub slot_among : List Piece → ℕ → Option Slot
@@ -29,4 +29,4 @@ slot_among pieces place = option_and_then slot_in (cell_among pieces place)
 
 -- the slots of pieces, by their places
 abbrev pub slots_of : List Piece → SlotList
-slots_of pieces = map (slot_among pieces) (range_with_len 0 (65536 * length pieces))
+slots_of pieces = map (slot_among pieces) (range_with_len 0 (16384 * length pieces))

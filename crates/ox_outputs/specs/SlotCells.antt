@@ -31,14 +31,14 @@ cells_of (at ∷ outpoints) (mark ∷ marks) (row ∷ rows) =
     record { at = at; mark = mark; row = row } ∷ cells_of outpoints marks rows
 cells_of outpoints marks rows = []
 
--- There is a mark and a row for each outpoint, and room for 65,536 of each.
+-- There is a mark and a row for each outpoint, and room for 16,384 of each.
 pub record AreSideBySide (outpoints : Vec OutPoint) (marks : Vec Mark) (rows : Vec OutRow)
     : Type 0 where
   pub marked : length marks.items ≡ length outpoints.items
   pub filled : length rows.items ≡ length outpoints.items
-  pub room : 65536 ≤ vec_capacity outpoints
-  pub room_for_marks : 65536 ≤ vec_capacity marks
-  pub room_for_rows : 65536 ≤ vec_capacity rows
+  pub room : 16384 ≤ vec_capacity outpoints
+  pub room_for_marks : 16384 ≤ vec_capacity marks
+  pub room_for_rows : 16384 ≤ vec_capacity rows
 
 -- the outpoint of a slot, if it is empty
 abbrev pub empty_from : Option Slot → Option OutPoint

@@ -83,7 +83,7 @@ impl Start {
 }
 
 /// So many starts are the most of a cell.
-const MOST: usize = 256;
+const MOST: usize = 512;
 
 /// For so many starts more memory is taken at a time.
 const ROOM: usize = 8;

@@ -42,7 +42,7 @@ impl Model for Held {
 
     ghost view = { λ h. record { slots = slots_of h.pieces.items } };
 
-    ghost invariant = { λ h. length h.pieces.items ≤ 65535 };
+    ghost invariant = { λ h. length h.pieces.items ≤ 262143 };
 }
 
 /// No slots. It takes no memory until one is made.
@@ -174,7 +174,7 @@ pub(crate) fn vacate(held: &mut Held, place: u32)
 }
 
 /// Gives out a place, and puts a slot there with a row. Where there is no memory for it, or no
-/// number below 2 ^ 32 - 65,536, the row is handed back and all places are as before.
+/// number below 2 ^ 32 - 16,384, the row is handed back and all places are as before.
 pub(crate) fn give_out(held: &mut Held, at: OutPoint, row: OutRow) -> Result<u32, Unplaced>
     ensures free { IfOk result (λ place. slot_at held.old.slots place ≡ None) }
     ensures updates { IfOk result (λ place. Updates held.old.slots held.new.slots place
@@ -215,8 +215,8 @@ fn give_new(
     at: OutPoint,
     row: OutRow,
 ) -> Result<u32, Unplaced>
-    requires few { length pieces.old.items ≤ 65535 }
-    ensures few { length pieces.new.items ≤ 65535 }
+    requires few { length pieces.old.items ≤ 262143 }
+    ensures few { length pieces.new.items ≤ 262143 }
     ensures free { IfOk result (λ place. slot_among pieces.old.items place ≡ None) }
     ensures updates { IfOk result (λ place. Updates (slots_of pieces.old.items)
         (slots_of pieces.new.items) place (Some (record { at = at; row = Some row }))) }

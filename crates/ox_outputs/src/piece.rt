@@ -13,7 +13,7 @@ use std::marker::Model;
 use std::mem;
 
 /// So many places are in a piece.
-pub(crate) const PIECE: usize = 65_536;
+pub(crate) const PIECE: usize = 16_384;
 
 /// So many places side by side, in memory that is taken at once for all of them, and never moves.
 /// Only those that were ever given out have a cell: the first ones. Outpoints, marks and rows stand
@@ -67,14 +67,14 @@ impl Piece {
 
     /// Whether a place of it was never given out.
     pub(crate) fn has_room(&self) -> bool
-        ensures { IsTrue result ↔ (length self.now < 65536) }
+        ensures { IsTrue result ↔ (length self.now < 16384) }
     {
         self.outpoints.len() < PIECE
     }
 
     /// Gives the next place out, and answers which of the piece it is.
     pub(crate) fn add(&mut self, cell: SlotCell) -> usize
-        requires { length self.old < 65536 }
+        requires { length self.old < 16384 }
         ensures cells { self.new ≡ self.old ++ cell ∷ [] }
         ensures index { result ≡ length self.old }
     {

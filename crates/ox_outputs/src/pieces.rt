@@ -11,7 +11,7 @@ use ox_rules::Memory;
 use std::alloc::Global;
 
 /// There are so many pieces at most. So each place is below 2 ^ 32 - 1.
-const MOST: usize = 65_535;
+const MOST: usize = 262_143;
 
 /// The cell at a place, if it was ever given out.
 pub(crate) fn cell_at(pieces: &[Piece], place: usize) -> Option<CellRef<'_>>
@@ -36,7 +36,7 @@ pub(crate) fn replace(pieces: &mut Vec<Piece>, place: usize, cell: SlotCell) -> 
 
 /// Gives out the next place of the piece with this number, and answers it.
 pub(crate) fn add(pieces: &mut Vec<Piece>, number: usize, cell: SlotCell) -> u32
-    requires few { length pieces.old.items ≤ 65535 }
+    requires few { length pieces.old.items ≤ 262143 }
     requires room { HasRoom pieces.old.items number }
     ensures none { cell_among pieces.old.items result ≡ None }
     ensures turns { Turns pieces.old.items pieces.new.items result cell }
@@ -48,10 +48,10 @@ pub(crate) fn add(pieces: &mut Vec<Piece>, number: usize, cell: SlotCell) -> u32
 }
 
 /// The number of the last piece, if a place of it was never given out; else a piece is made.
-/// `Memory` where there is none for it, or where there are 65,535 pieces: all are as before.
+/// `Memory` where there is none for it, or where there are 262,143 pieces: all are as before.
 pub(crate) fn ensure_room(pieces: &mut Vec<Piece>, alloc: Global) -> Result<usize, Memory>
-    requires few { length pieces.old.items ≤ 65535 }
-    ensures few { length pieces.new.items ≤ 65535 }
+    requires few { length pieces.old.items ≤ 262143 }
+    ensures few { length pieces.new.items ≤ 262143 }
     ensures room { IfOk result (λ number. HasRoom pieces.new.items number) }
     ensures same { (place : ℕ)
         → cell_among pieces.new.items place ≡ cell_among pieces.old.items place }

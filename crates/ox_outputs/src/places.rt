@@ -1,7 +1,7 @@
 //! The places of slots, by outpoint.
 
 ghost use Rattle.std.specs.Prelude.{◌≡◌, ◌≢◌, ◌⊎◌, ◌++◌, ◌∷◌, [], ℕ, Some, None, IfSome, IfNone, IfOk, OnOk, OnErr};
-ghost use Rattle.std.specs.Prelude.{true, false, if◌then◌else◌, length};
+ghost use Rattle.std.specs.Prelude.{true, false, if◌then◌else◌, count_by, length};
 ghost use Rattle.std.specs.BTreeMap.{is_at};
 ghost use Rattle.ox_rules.specs.Outputs.{outpoint_cmp};
 ghost use Rattle.ox_block.specs.declared.block.OutPoint.{OutPoint};
@@ -25,7 +25,7 @@ const FILL: usize = 64;
 const MOST: usize = 256;
 
 /// A list takes memory for so many more places, and gives it back where more are free.
-const STEP: usize = 4;
+const STEP: usize = 2;
 
 /// Places with a part of their outpoints.
 type List = Vec<Entry>;
@@ -229,20 +229,29 @@ fn split(lists: &mut Vec<List>, lines: &mut Lines, alloc: Global) -> Result<(), 
     Ok(())
 }
 
-/// The entries whose tags lead to the last line. `AllocError` where there is no memory for them.
+/// The entries whose tags lead to the last line. Memory is taken for just so many, since more that
+/// is given back leaves holes between lists. `AllocError` where there is none.
 fn going(list: &[Entry], lines: &Lines, alloc: Global) -> Result<List, AllocError>
     ensures { IfOk result (λ last. (tag place : ℕ) → is_last lines.now tag ≡ true
         → is_in list.now tag place ≡ true → is_in last.items tag place ≡ true) }
 {
     let mut last = Vec::new(alloc);
-    last.reserve_exact(list.len())?;
+    last.reserve_exact(count_going(list, lines))?;
     for entry in list {
         if lines.is_last(u64::from(entry.tag)) {
-            last.push_reserved(*entry);
+            last.push(*entry)?;
         }
     }
-    last.shrink_to_fit();
     Ok(last)
+}
+
+/// How many entries' tags lead to the last line.
+fn count_going(list: &[Entry], lines: &Lines) -> usize
+    ensures { result ≡ count_by (λ entry. is_last lines.now entry.tag) list.now }
+{
+    list.iter()
+        .filter(|entry| lines.is_last(u64::from(entry.tag)))
+        .count()
 }
 
 /// Drops the entries whose tags lead to the last line.

@@ -6,7 +6,6 @@ use Rattle.std.specs.BTreeMap.{is_at}
 use Rattle.std.specs.FinMap.{get}
 use Rattle.std.specs.Map.{keys_of, lookup}
 use Rattle.ox_block.specs.declared.block.OutPoint.{OutPoint}
-use Rattle.ox_rules.specs.declared.rows.OutRow.{OutRow}
 use Rattle.ox_rules.specs.Differences.{AreGone}
 use Rattle.ox_rules.specs.Outputs.{Outputs, outpoint_cmp}
 use Rattle.ox_outputs.specs.Differing.{gone_at, outpoint_in, pairs_in, row_at, row_unless}

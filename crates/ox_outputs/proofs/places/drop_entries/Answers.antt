@@ -1,4 +1,4 @@
-use Rattle.std.proofs.Common.{rules, arith, ◌≡◌, ◌<◌, ◌-◌, ◌∙◌, ℕ, List, length, get_or, sym, ap}
+use Rattle.std.proofs.Common.{rules, arith, ◌≡◌, ◌<◌, ◌-◌, ◌∙◌, ℕ, List, length, sym, ap}
 use Rattle.std.proofs.lemmas.List.{get_or_default}
 use Rattle.ox_outputs.specs.declared.entry.Entry.{Entry}
 use Rattle.ox_outputs.specs.Lists.{is_in}

@@ -1,4 +1,4 @@
-use Rattle.std.proofs.Common.{rules, refl, ◌<◌, ◌≡◌, ◌∙◌, ℕ, Bool, cond, List, length, length-set, sym, ap, subst, Option, Some, inl, inr, ⊎_elim}
+use Rattle.std.proofs.Common.{rules, refl, ◌<◌, ◌≡◌, ◌∙◌, ℕ, Bool, cond, List, length-set, sym, ap, subst, Option, Some, inl, inr, ⊎_elim}
 use Rattle.std.specs.Prelude.{Result, Ok, Err, OnErr}
 use Rattle.std.specs.BTreeMap.{is_at}
 use Rattle.std.specs.Map.{lookup}

@@ -1,8 +1,8 @@
-use Rattle.std.proofs.Common.{◌∙◌, ap, refl, subst, sym, Option}
+use Rattle.std.proofs.Common.{◌∙◌, ap, refl, subst, sym}
 use Rattle.std.specs.FinMap as map
 use Rattle.std.specs.Option.{option_map, option_and_then}
 use Rattle.std.specs.Prelude.{IsSome}
-use Rattle.ox_outputs.specs.Slots.{Slot, SlotList, outpoint_at, row_at, rows_of, slot_at, unless_empty}
+use Rattle.ox_outputs.specs.Slots.{Slot, SlotList, outpoint_at, rows_of, slot_at, unless_empty}
 use Rattle.ox_outputs.proofs.PlaceLemmas.{get-at_place, removed, rows_same, placed_less, stays}
 use Rattle.ox_outputs.proofs.SlotLemmas.{empty_slot}
 use Rattle.ox_outputs.proofs.slots.Slots.tidy.Goals as goal
