@@ -2,8 +2,8 @@
 
 ghost use Rattle.ox_address.specs.Address.{IsHrp};
 
-use crate::print::{FILLED, NO_ROW, Page, is_untouched, print_hex, put_line};
-use crate::spell::bytes_of;
+use crate::print::{FILLED, NO_ROW, Page, is_untouched, print_hex};
+use crate::spell::{bytes_of, four_of};
 use ox_address::{is_hrp, read, write};
 use std::alloc::Global;
 
@@ -13,11 +13,12 @@ fn print_written(page: &mut Page, hrp: &[u8], script: &[u8])
 {
     let mut room = [FILLED; 90];
     let Some(len) = write(hrp, script, &mut room) else {
-        return put_line!(page; "no segwit script, untouched: {}", is_untouched(&room));
+        return page.flag_line("no segwit script, untouched: ", is_untouched(&room));
     };
     let (front, behind) = room.split_at(len.min(90));
-    let text = str::from_utf8(front).unwrap_or("no text");
-    put_line!(page; "{text} {len}, untouched: {}", is_untouched(behind))
+    page.put(str::from_utf8(front).unwrap_or("no text"));
+    page.count(" ", len as u128);
+    page.flag_line(", untouched: ", is_untouched(behind))
 }
 
 /// The script of a text.
@@ -26,11 +27,12 @@ fn print_read(page: &mut Page, hrp: &[u8], text: &[u8])
 {
     let mut room = [FILLED; 42];
     let Ok(len) = read(hrp, text, &mut room) else {
-        return put_line!(page; "no address, untouched: {}", is_untouched(&room));
+        return page.flag_line("no address, untouched: ", is_untouched(&room));
     };
     let (script, behind) = room.split_at(len.min(42));
     print_hex(page, script);
-    put_line!(page; " {len}, untouched: {}", is_untouched(behind))
+    page.count(" ", len as u128);
+    page.flag_line(", untouched: ", is_untouched(behind))
 }
 
 /// Whether a text is read as some script.
@@ -53,7 +55,8 @@ fn print_others(page: &mut Page, hrp: &[u8], text: &mut Vec<u8>, place: usize, b
         if !is_address(hrp, text) {
             refused = refused.saturating_add(1);
         } else if other != byte {
-            put_line!(page; "  {place} {other}");
+            page.count("  ", place as u128);
+            page.count_line(" ", other as u128);
         }
     }
     if let Some(at) = text.get_mut(place) {
@@ -71,7 +74,8 @@ fn print_changes(page: &mut Page, hrp: &[u8], text: &mut Vec<u8>)
         let byte = text.get(place).copied().unwrap_or(0);
         refused = refused.saturating_add(print_others(page, hrp, text, place, byte));
     }
-    put_line!(page; "{refused} refused")
+    page.count("", refused as u128);
+    page.say(" refused")
 }
 
 /// Each text with two neighbours exchanged that is an address, and how many aren't.
@@ -85,7 +89,7 @@ fn print_swaps(page: &mut Page, hrp: &[u8], text: &mut Vec<u8>)
         }
         text.swap(place - 1, place);
         if is_address(hrp, text) {
-            put_line!(page; "  {place}");
+            page.count_line("  ", place as u128);
         } else {
             refused = refused.saturating_add(1);
         }
@@ -93,7 +97,8 @@ fn print_swaps(page: &mut Page, hrp: &[u8], text: &mut Vec<u8>)
             text.swap(place - 1, place);
         }
     }
-    put_line!(page; "{refused} refused")
+    page.count("", refused as u128);
+    page.say(" refused")
 }
 
 /// Writes a script, and reads its address where that is asked: a byte of what came out.
@@ -164,9 +169,7 @@ pub fn print_address(page: &mut Page, alloc: Global, word: &str, text: &str) {
 
 /// The sum of a row: its work, its human-readable part, its script, and how often.
 fn repeated(alloc: Global, text: &str) -> Option<u32> {
-    let (work, rest) = text.split_once(' ')?;
-    let (hrp, rest) = rest.split_once(' ')?;
-    let (digits, times) = rest.split_once(' ')?;
+    let (work, hrp, digits, times) = four_of(text)?;
     let hrp = hrp.as_bytes();
     if !is_hrp(hrp) {
         return None;
@@ -179,7 +182,7 @@ fn repeated(alloc: Global, text: &str) -> Option<u32> {
 /// Prints the sum of a row.
 pub fn print_repeated(page: &mut Page, alloc: Global, text: &str) {
     match repeated(alloc, text) {
-        Some(sum) => put_line!(page; "{sum}"),
+        Some(sum) => page.count_line("", sum as u128),
         None => page.say(NO_ROW),
     }
 }

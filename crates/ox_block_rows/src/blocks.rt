@@ -1,6 +1,6 @@
 //! What blocks read as.
 
-use crate::print::{NO_ROW, Page, print_line, put, put_line};
+use crate::print::{NO_ROW, Page, print_line};
 use ox_block::{
     Block, BlockFault, Header, Txid, committed, hash, read_block, root, txid_of, witness_root,
     write_block, wtxid_of,
@@ -51,9 +51,9 @@ fn read_often(alloc: Global, bytes: &[u8], times: u32) -> Result<Read, BlockFaul
     read_once(alloc, bytes)
 }
 
-/// A name, and bytes in hex digits.
+/// A name as it stands, and bytes in hex digits.
 fn print_named(page: &mut Page, name: &str, bytes: &[u8]) {
-    put!(page; "  {name} ");
+    page.put(name);
     print_line(page, bytes)
 }
 
@@ -63,8 +63,8 @@ fn print_ids(page: &mut Page, block: &Block) {
         return;
     }
     for tx in block.txs.as_slice() {
-        print_named(page, "txid", &txid_of(tx).0);
-        print_named(page, "wtxid", &wtxid_of(tx).0);
+        print_named(page, "  txid ", &txid_of(tx).0);
+        print_named(page, "  wtxid ", &wtxid_of(tx).0);
     }
 }
 
@@ -78,34 +78,36 @@ fn is_written_so(alloc: Global, block: &Block, bytes: &[u8]) -> bool {
 
 /// The numbers of a header, and how many transactions the block has.
 fn print_header(page: &mut Page, header: &Header, txs: usize) {
-    put_line!(page;
-        "version {}, time {}, bits {}, nonce {}, {txs} transactions",
-        header.version, header.time, header.bits, header.nonce
-    )
+    page.count("version ", header.version as u128);
+    page.count(", time ", header.time as u128);
+    page.count(", bits ", header.bits as u128);
+    page.count(", nonce ", header.nonce as u128);
+    page.count(", ", txs as u128);
+    page.say(" transactions")
 }
 
 /// The roots of a block's ids.
 fn print_roots(page: &mut Page, header: &Header, roots: &Roots) {
-    print_named(page, "root", &roots.over_ids);
-    put_line!(page; "  root is the header's: {}", roots.over_ids == header.root);
-    print_named(page, "witness root", &roots.over_wtxids)
+    print_named(page, "  root ", &roots.over_ids);
+    page.flag_line("  root is the header's: ", roots.over_ids == header.root);
+    print_named(page, "  witness root ", &roots.over_wtxids)
 }
 
 /// The hash of a block, its ids and its roots.
 fn print_block(page: &mut Page, alloc: Global, read: &Read, bytes: &[u8]) {
     let block = &read.block;
     print_header(page, &block.header, block.txs.len());
-    print_named(page, "hash", &hash(&block.header));
+    print_named(page, "  hash ", &hash(&block.header));
     print_ids(page, block);
     print_roots(page, &block.header, &read.roots);
-    put_line!(page; "  written so: {}", is_written_so(alloc, block, bytes))
+    page.flag_line("  written so: ", is_written_so(alloc, block, bytes))
 }
 
 /// What the bytes read as, which are read so many times.
 pub fn print_read(page: &mut Page, alloc: Global, bytes: &[u8], times: u32) {
     match read_often(alloc, bytes, times) {
         Ok(read) => print_block(page, alloc, &read, bytes),
-        Err(BlockFault::Malformed { at }) => put_line!(page; "fault at {at}"),
+        Err(BlockFault::Malformed { at }) => page.count_line("fault at ", at as u128),
         Err(BlockFault::Memory) => page.say(NO_ROW),
     }
 }
@@ -142,7 +144,7 @@ pub fn print_fronts(page: &mut Page, alloc: Global, bytes: &[u8]) {
     for len in 0..bytes.len() {
         let (front, _) = bytes.split_at(len);
         match fault_in(alloc, front) {
-            Some(at) => put!(page; " {at}"),
+            Some(at) => page.count(" ", at as u128),
             None => page.put(" none"),
         }
     }

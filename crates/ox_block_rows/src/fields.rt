@@ -1,8 +1,8 @@
 //! Numbers as bytes, alone and one behind the other, and bytes in room.
 
-use crate::print::{FILLED, NO_ROW, Page, print_bytes_in, print_line, put, put_line};
+use crate::print::{FILLED, NO_ROW, Page, print_bytes_in, print_line, put_line};
 use ox_bytes::{Bytes, Cursor, Memory, Room, put_compact, put_u32le, put_u64le};
-use ox_varint::write;
+use ox_varint::{read, write};
 use std::alloc::Global;
 
 /// The number that a word is, 0 where it isn't read.
@@ -33,6 +33,11 @@ pub fn print_varint(page: &mut Page, number: u128) {
     let mut room = [FILLED; 19];
     let len = write(number, &mut room);
     print_bytes_in(page, &room, len)
+}
+
+/// What bytes read as a number in LEB128.
+pub fn print_number(page: &mut Page, bytes: &[u8]) {
+    put_line!(page; "{:?}", read(bytes))
 }
 
 /// A number of 4 bytes, one of 8 and a compact size, as they stand one behind the other, what
@@ -95,7 +100,10 @@ fn fill_room(alloc: Global, bytes: &[u8], place: usize) -> Result<Filled, Memory
 
 /// How much was spare of room, and its bytes.
 fn print_filled(page: &mut Page, filled: &Filled) {
-    put!(page; "{} {} {} ", filled.before, filled.between, filled.behind);
+    page.count("", filled.before as u128);
+    page.count(" ", filled.between as u128);
+    page.count(" ", filled.behind as u128);
+    page.put(" ");
     print_line(page, filled.bytes.as_slice())
 }
 

@@ -2,7 +2,7 @@
 
 ghost use Rattle.std.specs.Prelude.{◌≡◌, [], false, true};
 
-use crate::print::{NO_ROW, Page, put_line};
+use crate::print::{NO_ROW, Page};
 use crate::streams::{print_request, print_some, stream_of};
 use ox_bytes::{Bytes, Memory};
 use ox_http::{Reply, Request, write_reply};
@@ -21,7 +21,7 @@ pub enum Manner {
 }
 
 /// What is to be done behind an answer of the session.
-#[derive(Clone, Copy, PartialEq, Eq)]
+#[derive(Clone, Copy)]
 enum Then {
     Poll,
     Wait,
@@ -69,7 +69,7 @@ fn take_due(page: &mut Page, session: &mut Session)
     session.took(half);
     let left = session.due().len();
     session.took(left);
-    put_line!(page; " and {left}")
+    page.count_line(" and ", left as u128)
 }
 
 /// Polls the session once, and answers it.

@@ -109,13 +109,13 @@ mod streams;
 
 use crate::addresses::{print_address, print_repeated};
 use crate::blocks::{print_committed, print_fronts, print_order, print_read};
-use crate::fields::{numbers_of, print_fields, print_put, print_room, short};
+use crate::fields::{numbers_of, print_fields, print_number, print_put, print_room, short};
 use crate::frames::{print_frames, print_pieces};
 use crate::links::drive;
 use crate::made::print_made;
-use crate::names::print_numbers;
+use crate::names::{print_named, print_numbers};
 use crate::often::{print_held, read_often};
-use crate::print::{NO_ROW, Page, put_line};
+use crate::print::{NO_ROW, Page};
 use crate::ranges::print_steps;
 use crate::replies::{print_fault, print_row, print_unavailable};
 use crate::routes::print_route;
@@ -127,8 +127,6 @@ use crate::spell::{bytes_from, bytes_of};
 use crate::stones::print_stone;
 use crate::streams::{print_growth, print_talk, stream_of};
 use ox_envelope::{read_id, read_id_text};
-use ox_name::read_name;
-use ox_varint::read;
 use std::alloc::Global;
 use std::{env, io};
 
@@ -137,8 +135,8 @@ fn run_bytes(page: &mut Page, alloc: Global, word: &str, bytes: &[u8]) {
     match word {
         "fronts" => print_fronts(page, alloc, bytes),
         "value" => print_id(page, read_id(bytes)),
-        "named" => put_line!(page; "{:?}", read_name(bytes)),
-        "number" => put_line!(page; "{:?}", read(bytes)),
+        "named" => print_named(page, bytes),
+        "number" => print_number(page, bytes),
         "fields" => print_fields(page, bytes),
         _ => print_kinds(page, bytes),
     }
@@ -221,22 +219,6 @@ fn run_parts_of(page: &mut Page, alloc: Global, word: &str, parts: &str, count: 
     }
 }
 
-/// Prints what a link and its streams say, and replies.
-fn run_link(page: &mut Page, alloc: Global, word: &str, rest: &str) {
-    match word {
-        "pieces" | "often" => {
-            let (count, parts) = rest.split_once(' ').unwrap_or((rest, "-"));
-            run_parts_of(page, alloc, word, parts, count.parse().unwrap_or(0))
-        }
-        "link" => drive(page, alloc, rest),
-        "hold" => print_held(page, alloc, rest),
-        "reply" => print_row(page, alloc, rest),
-        "fault" => print_fault(page, alloc, rest),
-        "unavailable" => print_unavailable(page),
-        _ => run_parts_of(page, alloc, word, rest, 0),
-    }
-}
-
 /// Prints what texts and numbers say.
 fn run_text(page: &mut Page, alloc: Global, word: &str, rest: &str) {
     match word {
@@ -250,6 +232,47 @@ fn run_text(page: &mut Page, alloc: Global, word: &str, rest: &str) {
     }
 }
 
+/// The same of a stream behind a number.
+fn run_counted_parts(page: &mut Page, alloc: Global, word: &str, rest: &str) {
+    let (count, parts) = rest.split_once(' ').unwrap_or((rest, "-"));
+    run_parts_of(page, alloc, word, parts, count.parse().unwrap_or(0))
+}
+
+/// Prints what a link and its streams say, and replies; or what texts and numbers say.
+fn run_link(page: &mut Page, alloc: Global, word: &str, rest: &str) {
+    match word {
+        "talk" | "grow" | "frames" => run_parts_of(page, alloc, word, rest, 0),
+        "pieces" | "often" => run_counted_parts(page, alloc, word, rest),
+        "link" => drive(page, alloc, rest),
+        "hold" => print_held(page, alloc, rest),
+        "reply" => print_row(page, alloc, rest),
+        "fault" => print_fault(page, alloc, rest),
+        "unavailable" => print_unavailable(page),
+        _ => run_text(page, alloc, word, rest),
+    }
+}
+
+/// Prints what addresses say, or what another row does.
+fn run_address(page: &mut Page, alloc: Global, word: &str, rest: &str) {
+    match word {
+        "write" | "read" | "changes" | "swaps" => print_address(page, alloc, word, rest),
+        "repeat" => print_repeated(page, alloc, rest),
+        _ => run_link(page, alloc, word, rest),
+    }
+}
+
+/// Prints what the bytes of hex digits say, or what another row does.
+fn run_short(page: &mut Page, alloc: Global, word: &str, rest: &str) {
+    match word {
+        "fronts" | "value" | "named" | "number" | "fields" | "kinds" => {
+            run_digits(page, alloc, word, rest)
+        }
+        "stone" | "tapscript" | "room" => run_count(page, alloc, word, rest),
+        "put" => run_put(page, alloc, rest),
+        _ => run_address(page, alloc, word, rest),
+    }
+}
+
 /// Prints what a row says. What is timed is done so many times.
 fn run(page: &mut Page, alloc: Global, row: &str, times: u32) {
     let (word, rest) = row.split_once(' ').unwrap_or((row, ""));
@@ -257,24 +280,7 @@ fn run(page: &mut Page, alloc: Global, row: &str, times: u32) {
         "block" | "committed" | "items" | "envelopes" | "script" | "route" | "listing" => {
             run_parts(page, alloc, word, rest, times)
         }
-        "fronts" | "value" | "named" | "number" | "fields" | "kinds" => {
-            run_digits(page, alloc, word, rest)
-        }
-        "stone" | "tapscript" | "room" => run_count(page, alloc, word, rest),
-        "put" => run_put(page, alloc, rest),
-        "write" | "read" | "changes" | "swaps" => print_address(page, alloc, word, rest),
-        "repeat" => print_repeated(page, alloc, rest),
-        "talk"
-        | "grow"
-        | "frames"
-        | "pieces"
-        | "often"
-        | "link"
-        | "hold"
-        | "reply"
-        | "fault"
-        | "unavailable" => run_link(page, alloc, word, rest),
-        _ => run_text(page, alloc, word, rest),
+        _ => run_short(page, alloc, word, rest),
     }
 }
 

@@ -1,9 +1,10 @@
 //! Names of runes, and amounts.
 
 use crate::fields::{long, print_varint, short};
-use crate::print::{FILLED, Page, print_bytes_in, print_text_in, put, put_line};
+use crate::print::{FILLED, Page, print_bytes_in, print_text_in, put_line};
 use ox_name::{
-    commitment, is_reserved, minimum, reserved_name, write_amount, write_name, write_spaced,
+    commitment, is_reserved, minimum, read_name, reserved_name, write_amount, write_name,
+    write_spaced,
 };
 
 /// The name of this number, whether it is reserved, and the commitment to it.
@@ -13,7 +14,8 @@ fn print_name(page: &mut Page, name: u128) {
     print_text_in(page, &letters, len);
     let mut bytes = [FILLED; 16];
     let len = commitment(name, &mut bytes);
-    put!(page; "  reserved: {}, commitment ", is_reserved(name));
+    page.flag("  reserved: ", is_reserved(name));
+    page.put(", commitment ");
     print_bytes_in(page, &bytes, len)
 }
 
@@ -31,6 +33,11 @@ fn print_amount(page: &mut Page, amount: u128, decimals: u128) {
     print_text_in(page, &room, len)
 }
 
+/// What bytes read as a name.
+pub fn print_named(page: &mut Page, bytes: &[u8]) {
+    put_line!(page; "{:?}", read_name(bytes))
+}
+
 /// Prints what a word and numbers say.
 pub fn print_numbers(page: &mut Page, word: &str, numbers: [u128; 3]) {
     let [first, second, third] = numbers;
@@ -38,8 +45,8 @@ pub fn print_numbers(page: &mut Page, word: &str, numbers: [u128; 3]) {
         "varint" => print_varint(page, first),
         "name" => print_name(page, first),
         "spaced" => print_spaced(page, first, short(second)),
-        "least" => put_line!(page; "{}", minimum(long(first), long(second), long(third))),
-        "kept" => put_line!(page; "{}", reserved_name(short(first), short(second))),
+        "least" => page.count_line("", minimum(long(first), long(second), long(third))),
+        "kept" => page.count_line("", reserved_name(short(first), short(second))),
         "amount" => print_amount(page, first, second),
         _ => page.say("no row"),
     }

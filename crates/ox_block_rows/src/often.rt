@@ -3,28 +3,19 @@
 ghost use Rattle.std.specs.Prelude.{◌≡◌, [], false};
 
 use crate::links::{Manner, answer};
-use crate::print::{NO_ROW, Page, put_line};
-use crate::streams::stream_of;
-use ox_http::{Parsed, request_of};
+use crate::print::{NO_ROW, Page};
+use crate::streams::{length_in_front, stream_of};
 use ox_session::{Poll, Session};
 use std::alloc::Global;
-
-/// How many bytes the whole request has that a stream begins with; 0 also where there is no memory
-/// for it.
-fn length_of(alloc: Global, stream: &[u8]) -> u64 {
-    match request_of(alloc, stream) {
-        Ok(Parsed::Whole { used, .. }) => used as u64,
-        _ => 0,
-    }
-}
 
 /// Reads what a stream begins with so often, and prints how many bytes whole requests had in all.
 pub fn read_often(page: &mut Page, alloc: Global, stream: &[u8], times: usize) {
     let mut read: u64 = 0;
     for _ in 0..times {
-        read = read.saturating_add(length_of(alloc, stream));
+        read = read.saturating_add(length_in_front(alloc, stream).unwrap_or(0) as u64);
     }
-    put_line!(page; "{read} bytes")
+    page.count("", read as u128);
+    page.say(" bytes")
 }
 
 /// Polls a session once, answers it and takes what is due. Answers how many bytes that were, or
@@ -100,10 +91,16 @@ fn held(alloc: Global, text: &str) -> Option<u64> {
     )
 }
 
+/// Prints how many bytes were due.
+fn print_due(page: &mut Page, shown: u64) {
+    page.count("", shown as u128);
+    page.say(" bytes due")
+}
+
 /// Prints how many bytes were due in all of the sessions that are kept.
 pub fn print_held(page: &mut Page, alloc: Global, text: &str) {
     match held(alloc, text) {
-        Some(shown) => put_line!(page; "{shown} bytes due"),
+        Some(shown) => print_due(page, shown),
         None => page.say(NO_ROW),
     }
 }

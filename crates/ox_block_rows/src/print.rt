@@ -11,6 +11,22 @@ pub const FILLED: u8 = 0x5a;
 /// What is said of a row that can't be read, or for which there is no memory.
 pub const NO_ROW: &str = "no row, or no memory";
 
+/// Puts what `write!` writes on a page.
+macro_rules! put {
+    ($page:ident; $($written:tt)*) => {{
+        let put = write!($page.text, $($written)*);
+        $page.keep(put)
+    }};
+}
+
+/// The same, in a line.
+macro_rules! put_line {
+    ($page:ident; $($written:tt)*) => {{
+        let put = writeln!($page.text, $($written)*);
+        $page.keep(put)
+    }};
+}
+
 /// What a row prints.
 #[derive(Drop)]
 pub struct Page {
@@ -61,22 +77,30 @@ impl Page {
         self.put(text);
         self.put("\n");
     }
-}
 
-/// Puts what `write!` writes on a page.
-macro_rules! put {
-    ($page:ident; $($written:tt)*) => {{
-        let put = write!($page.text, $($written)*);
-        $page.keep(put)
-    }};
-}
+    /// Puts a text and a number behind it.
+    pub fn count(&mut self, text: &str, number: u128) {
+        let put = write!(self.text, "{text}{number}");
+        self.keep(put)
+    }
 
-/// The same, in a line.
-macro_rules! put_line {
-    ($page:ident; $($written:tt)*) => {{
-        let put = writeln!($page.text, $($written)*);
-        $page.keep(put)
-    }};
+    /// Puts a text and a number behind it, in a line.
+    pub fn count_line(&mut self, text: &str, number: u128) {
+        self.count(text, number);
+        self.put("\n");
+    }
+
+    /// Puts a text, and behind it whether something is so.
+    pub fn flag(&mut self, text: &str, is_so: bool) {
+        self.put(text);
+        self.put(if is_so { "true" } else { "false" });
+    }
+
+    /// Puts a text, and behind it whether something is so, in a line.
+    pub fn flag_line(&mut self, text: &str, is_so: bool) {
+        self.flag(text, is_so);
+        self.put("\n");
+    }
 }
 
 pub(crate) use put;
@@ -101,7 +125,9 @@ fn digits_in(bytes: &[u8]) -> usize {
 /// Bytes in hex digits, or how many they are.
 pub fn print_bytes(page: &mut Page, bytes: &[u8]) {
     if bytes.len() > MOST_SHOWN {
-        return put!(page; "{} bytes, {} digits", bytes.len(), digits_in(bytes));
+        page.count("", bytes.len() as u128);
+        page.count(" bytes, ", digits_in(bytes) as u128);
+        return page.put(" digits");
     }
     print_hex(page, bytes)
 }
@@ -126,12 +152,12 @@ pub fn is_untouched(behind: &[u8]) -> bool {
 pub fn print_bytes_in(page: &mut Page, room: &[u8], len: usize) {
     let (front, behind) = room.split_at(len.min(room.len()));
     print_hex(page, front);
-    put_line!(page; ", untouched: {}", is_untouched(behind))
+    page.flag_line(", untouched: ", is_untouched(behind))
 }
 
 /// The same of a text.
 pub fn print_text_in(page: &mut Page, room: &[u8], len: usize) {
     let (front, behind) = room.split_at(len.min(room.len()));
-    let text = str::from_utf8(front).unwrap_or("no text");
-    put_line!(page; "{text}, untouched: {}", is_untouched(behind))
+    page.put(str::from_utf8(front).unwrap_or("no text"));
+    page.flag_line(", untouched: ", is_untouched(behind))
 }

@@ -1,6 +1,6 @@
 //! Lists of satoshis, by steps.
 
-use crate::print::{Page, put, put_line};
+use crate::print::{Page, put_line};
 use ox_range::{Growing, Ranges};
 use std::alloc::Global;
 use std::mem;
@@ -95,9 +95,11 @@ fn change(alloc: Global, lists: &mut Lists, word: &str, number: u64) -> bool {
 
 /// How many numbers a list has, whether it is empty, and its runs.
 fn print_list(page: &mut Page, list: &Ranges) {
-    put!(page; "{} empty: {}", list.len(), list.is_empty());
+    page.count("", list.len() as u128);
+    page.flag(" empty: ", list.is_empty());
     for run in list.runs() {
-        put!(page; " {}+{}", run.first, run.count);
+        page.count(" ", run.first as u128);
+        page.count("+", run.count as u128);
     }
     page.say("")
 }
@@ -107,7 +109,7 @@ fn print_at(page: &mut Page, list: &Ranges, place: u64) {
     if place >= list.len() {
         return page.say("no place");
     }
-    put_line!(page; "{}", list.at(place))
+    page.count_line("", list.at(place) as u128)
 }
 
 /// Does what a step says.

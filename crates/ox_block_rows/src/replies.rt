@@ -1,7 +1,7 @@
 //! Written replies.
 
 use crate::print::{NO_ROW, Page};
-use crate::spell::bytes_of;
+use crate::spell::{bytes_of, four_of};
 use crate::streams::print_some_line;
 use ox_bytes::{Bytes, Memory, Room};
 use ox_http::{HEAD_ROOM, Reply, UNAVAILABLE, fault_reply, put_reply, write_parts, write_reply};
@@ -22,9 +22,7 @@ fn encoding_of(alloc: Global, word: &str) -> Option<Option<Bytes>> {
 
 /// The reply of a row: its status, kind, encoding, whether it says close, and its body.
 fn reply_of(alloc: Global, text: &str) -> Option<Reply> {
-    let (status, rest) = text.split_once(' ')?;
-    let (kind, rest) = rest.split_once(' ')?;
-    let (encoding, rest) = rest.split_once(' ')?;
+    let (status, kind, encoding, rest) = four_of(text)?;
     let (close, body) = rest.split_once(' ')?;
     Some(Reply {
         status: status.parse().unwrap_or(0),

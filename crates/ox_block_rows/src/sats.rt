@@ -26,7 +26,8 @@ pub fn print_profile(page: &mut Page, word: &str) {
 fn print_height(page: &mut Page, p: &Profile, height: u64)
     requires { IsProfile p.now }
 {
-    put_line!(page; "{} from {}", subsidy(p, height), first(p, height))
+    page.count("", subsidy(p, height) as u128);
+    page.count_line(" from ", first(p, height) as u128)
 }
 
 /// The satoshi that a text spells: its number, its height, its degree, its rarity and its name.

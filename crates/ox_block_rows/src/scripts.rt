@@ -7,10 +7,10 @@ use ox_runestone::is_stone;
 use ox_script::{instructions_of, is_return, is_taproot, tapscript_place};
 use std::alloc::Global;
 
-/// A field's name, and its value if there is one.
+/// A field's name as it stands, and its value if there is one.
 fn print_field(page: &mut Page, name: &str, value: &Option<Bytes>) {
     if let Some(bytes) = value {
-        put!(page; " {name}=");
+        page.put(name);
         print_bytes(page, bytes.as_slice());
     }
 }
@@ -23,7 +23,8 @@ fn print_text(page: &mut Page, id: Option<InsId>) {
     let mut into = [0; 75];
     let len = write_id(&id, &mut into);
     let (text, _) = into.split_at(len);
-    put!(page; " {}", std::str::from_utf8(text).unwrap_or("no text"))
+    page.put(" ");
+    page.put(str::from_utf8(text).unwrap_or("no text"))
 }
 
 /// An id in a line.
@@ -44,13 +45,13 @@ fn print_pushes(page: &mut Page, envelope: &Envelope<'_>) {
 
 /// The fields of an envelope, its body and its marks.
 fn print_fields(page: &mut Page, says: &Inscribed) {
-    put!(page; "  marks={}", says.marks);
-    print_field(page, "type", &says.content_type);
-    print_field(page, "pointer", &says.pointer);
-    print_field(page, "metadata", &says.metadata);
-    print_field(page, "protocol", &says.metaprotocol);
-    print_field(page, "encoding", &says.encoding);
-    print_field(page, "body", &says.body)
+    page.count("  marks=", says.marks as u128);
+    print_field(page, " type=", &says.content_type);
+    print_field(page, " pointer=", &says.pointer);
+    print_field(page, " metadata=", &says.metadata);
+    print_field(page, " protocol=", &says.metaprotocol);
+    print_field(page, " encoding=", &says.encoding);
+    print_field(page, " body=", &says.body)
 }
 
 /// The ids that an envelope names.
@@ -83,7 +84,8 @@ fn print_envelope(page: &mut Page, alloc: Global, envelope: &Envelope<'_>) {
 
 /// How many envelopes there are, and what each says.
 fn print_envelopes(page: &mut Page, alloc: Global, found: &[Envelope<'_>]) {
-    put_line!(page; "{} envelopes", found.len());
+    page.count("", found.len() as u128);
+    page.say(" envelopes");
     for envelope in found {
         print_envelope(page, alloc, envelope);
     }
@@ -106,18 +108,15 @@ pub fn print_listing(page: &mut Page, script: &[u8]) {
         put!(page; "{item:?} ");
         stays = stays && !items.met_cut();
     }
-    let cut = items.met_cut();
-    put_line!(page; "cut: {cut}, stays: {}", stays && items.next().is_none())
+    page.flag("cut: ", items.met_cut());
+    page.flag_line(", stays: ", stays && items.next().is_none())
 }
 
 /// Which kinds of output a script is.
 pub fn print_kinds(page: &mut Page, script: &[u8]) {
-    put_line!(page;
-        "return: {}, taproot: {}, runestone: {}",
-        is_return(script),
-        is_taproot(script),
-        is_stone(script)
-    )
+    page.flag("return: ", is_return(script));
+    page.flag(", taproot: ", is_taproot(script));
+    page.flag_line(", runestone: ", is_stone(script))
 }
 
 /// The place of the tapscript of a witness of so many items, which ends with this one.
@@ -140,7 +139,8 @@ pub fn print_items(page: &mut Page, script: &[u8], times: u32) {
     for _ in 1..times {
         items = items_in(script);
     }
-    put_line!(page; "{items} items")
+    page.count("", items as u128);
+    page.say(" items")
 }
 
 /// Whether an envelope has a body. `Memory` where there is none for what it says.
@@ -173,11 +173,18 @@ fn envelopes_often(alloc: Global, script: &[u8], times: u32) -> Result<(usize, u
     envelopes_in(alloc, script)
 }
 
+/// How many envelopes there are, and how many of them have a body.
+fn print_counts(page: &mut Page, found: usize, bodies: usize) {
+    page.count("", found as u128);
+    page.count(" envelopes, ", bodies as u128);
+    page.say(" with a body")
+}
+
 /// How many envelopes a script has, and how many of them have a body, which are searched and read
 /// so many times.
 pub fn print_tally(page: &mut Page, alloc: Global, script: &[u8], times: u32) {
     match envelopes_often(alloc, script, times) {
-        Ok((found, bodies)) => put_line!(page; "{found} envelopes, {bodies} with a body"),
+        Ok((found, bodies)) => print_counts(page, found, bodies),
         Err(_) => page.say(NO_ROW),
     }
 }

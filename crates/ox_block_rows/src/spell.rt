@@ -3,7 +3,7 @@
 use std::alloc::Global;
 
 /// Appends, so many times, the bytes that a word's hex digits spell; `-` spells none.
-fn append(alloc: Global, bytes: &mut Vec<u8>, times: u32, word: &str) -> Option<()> {
+pub fn append(alloc: Global, bytes: &mut Vec<u8>, times: u32, word: &str) -> Option<()> {
     if word == "-" {
         return Some(());
     }
@@ -14,11 +14,17 @@ fn append(alloc: Global, bytes: &mut Vec<u8>, times: u32, word: &str) -> Option<
     Some(())
 }
 
+/// The first three words of a text, and what stands behind them.
+pub fn four_of(text: &str) -> Option<(&str, &str, &str, &str)> {
+    let (first, rest) = text.split_once(' ')?;
+    let (second, rest) = rest.split_once(' ')?;
+    let (third, fourth) = rest.split_once(' ')?;
+    Some((first, second, third, fourth))
+}
+
 /// Appends what a text spells: how often a part stands, a head, the part and a tail.
 fn append_parts(alloc: Global, bytes: &mut Vec<u8>, text: &str) -> Option<()> {
-    let (times, rest) = text.split_once(' ')?;
-    let (head, rest) = rest.split_once(' ')?;
-    let (part, tail) = rest.split_once(' ')?;
+    let (times, head, part, tail) = four_of(text)?;
     append(alloc, bytes, 1, head)?;
     append(alloc, bytes, times.parse().unwrap_or(0), part)?;
     append(alloc, bytes, 1, tail)

@@ -16,10 +16,8 @@ fn rise_turned(alloc: Global, edicts: &[Edict]) -> Option<bool> {
 /// A runestone's edicts, and its script.
 fn print_written(page: &mut Page, alloc: Global, edicts: &[Edict], script: &[u8]) {
     let turned = rise_turned(alloc, edicts);
-    put_line!(page;
-        "  ids rise: {}, turned round: {turned:?}",
-        ids_rise(edicts)
-    );
+    page.flag("  ids rise: ", ids_rise(edicts));
+    put_line!(page; ", turned round: {turned:?}");
     print_line(page, script)
 }
 

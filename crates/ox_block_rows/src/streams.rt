@@ -1,6 +1,7 @@
 //! Streams of requests, and what they begin with.
 
-use crate::print::{NO_ROW, Page, print_hex, put, put_line};
+use crate::print::{NO_ROW, Page, print_hex};
+use crate::spell::append;
 use ox_http::{Method, Parsed, Request, request_of};
 use std::alloc::Global;
 
@@ -8,16 +9,9 @@ use std::alloc::Global;
 const MOST_SHOWN: usize = 200;
 
 /// Appends what a part spells: hex digits, or how many times the same; `-` spells nothing.
-fn append(alloc: Global, bytes: &mut Vec<u8>, word: &str) -> Option<()> {
-    if word == "-" {
-        return Some(());
-    }
+fn append_part(alloc: Global, bytes: &mut Vec<u8>, word: &str) -> Option<()> {
     let (times, digits) = word.split_once('*').unwrap_or(("1", word));
-    let part = hex::decode(alloc, digits).ok()?;
-    for _ in 0..times.parse::<u32>().unwrap_or(0) {
-        bytes.extend_from_slice(&part).ok()?;
-    }
-    Some(())
+    append(alloc, bytes, times.parse().unwrap_or(0), digits)
 }
 
 /// The stream of parts, which stand behind one another with this between them. `None` also where
@@ -25,7 +19,7 @@ fn append(alloc: Global, bytes: &mut Vec<u8>, word: &str) -> Option<()> {
 pub fn stream_of(alloc: Global, parts: &str, between: char) -> Option<Vec<u8>> {
     let mut stream = Vec::new(alloc);
     for part in parts.split(between) {
-        append(alloc, &mut stream, part)?;
+        append_part(alloc, &mut stream, part)?;
     }
     Some(stream)
 }
@@ -33,7 +27,8 @@ pub fn stream_of(alloc: Global, parts: &str, between: char) -> Option<Vec<u8>> {
 /// Bytes in hex digits, or how many they are.
 pub fn print_some(page: &mut Page, bytes: &[u8]) {
     if bytes.len() > MOST_SHOWN {
-        return put!(page; "({} bytes)", bytes.len());
+        page.count("(", bytes.len() as u128);
+        return page.put(" bytes)");
     }
     print_hex(page, bytes)
 }
@@ -46,15 +41,15 @@ pub fn print_some_line(page: &mut Page, bytes: &[u8]) {
 
 fn word_of(method: Method) -> &'static str {
     match method {
-        Method::Get => "GET",
-        Method::Post => "POST",
-        Method::Other => "other",
+        Method::Get => "GET ",
+        Method::Post => "POST ",
+        Method::Other => "other ",
     }
 }
 
 /// A request: its method, path and body, and whether it closes.
 pub fn print_request(page: &mut Page, request: &Request) {
-    put!(page; "{} ", word_of(request.method));
+    page.put(word_of(request.method));
     print_some(page, request.path.as_slice());
     page.put(" body ");
     print_some(page, request.body.as_slice());
@@ -66,7 +61,7 @@ fn print_first(page: &mut Page, parsed: &Parsed) {
     match parsed {
         Parsed::Whole { request, .. } => print_request(page, request),
         Parsed::More => page.say("more"),
-        Parsed::Bad(status) => put_line!(page; "fault {status}"),
+        Parsed::Bad(status) => page.count_line("fault ", *status as u128),
     }
 }
 
@@ -82,7 +77,7 @@ fn used_by(parsed: &Parsed) -> Option<usize> {
 /// stand behind it.
 fn print_message(page: &mut Page, rest: &[u8], parsed: &Parsed) -> Option<usize> {
     match parsed {
-        Parsed::More => put_line!(page; "left {}", rest.len()),
+        Parsed::More => page.count_line("left ", rest.len() as u128),
         _ => print_first(page, parsed),
     }
     used_by(parsed)
@@ -112,12 +107,34 @@ pub fn print_talk(page: &mut Page, alloc: Global, stream: &[u8]) {
 
 /// What a stream says in front: nothing yet, a fault (0), or a request of so many bytes. `None`
 /// also where there is no memory for it.
-fn length_in_front(alloc: Global, stream: &[u8]) -> Option<usize> {
+pub fn length_in_front(alloc: Global, stream: &[u8]) -> Option<usize> {
     match request_of(alloc, stream) {
         Ok(Parsed::Whole { used, .. }) => Some(used),
         Ok(Parsed::Bad(_)) => Some(0),
         _ => None,
     }
+}
+
+/// What a front says, where it does for the first time, and whether it stays so behind what was
+/// found. Answers what is found then.
+fn print_front(
+    page: &mut Page,
+    alloc: Global,
+    front: &[u8],
+    found: Option<usize>,
+    whole: Option<usize>,
+) -> Option<usize> {
+    let now = length_in_front(alloc, front);
+    if found.is_none() && now.is_some() {
+        page.count("", front.len() as u128);
+        page.put(": ");
+        print_next(page, alloc, front);
+    }
+    let found = found.or(now);
+    if now != found || (found.is_some() && now != whole) {
+        page.say("what was said is gone");
+    }
+    found
 }
 
 /// At which length a stream says something for the first time, and what; whether it stays so.
@@ -126,15 +143,7 @@ pub fn print_growth(page: &mut Page, alloc: Global, stream: &[u8]) {
     let mut found = None;
     for heard in 0..=stream.len() {
         let front = stream.get(..heard).unwrap_or_default();
-        let now = length_in_front(alloc, front);
-        if found.is_none() && now.is_some() {
-            put!(page; "{heard}: ");
-            print_next(page, alloc, front);
-            found = now;
-        }
-        if now != found || (found.is_some() && now != whole) {
-            page.say("what was said is gone");
-        }
+        found = print_front(page, alloc, front, found, whole);
     }
     if found.is_none() {
         page.say("more");
