@@ -5,7 +5,6 @@ pub mod FilesOfStores
 pub mod GrowFaults
 pub mod GrowingFiles
 pub mod HeadLemmas
-pub mod MakeFaults
 pub mod OldStores
 pub mod PartsLemmas
 pub mod PiecesLemmas

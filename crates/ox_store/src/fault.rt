@@ -5,50 +5,30 @@ ghost use Rattle.ox_gated.specs.declared.fault.Halt.TheVariants as halts;
 ghost use Rattle.ox_store.specs.declared.fault.OpenFault.TheVariants as opens;
 
 use crate::store::Store;
-use ox_bytes::Memory;
 use ox_checkpoint::{Unjudged, earliest};
 use ox_gated::{DiskFault, GateFault, Halt};
 use ox_model::Refusal;
-use ox_outside::{Failed, Which};
+use ox_outside::Which;
 use ox_rules::Why;
 use std::alloc::Global;
 
-/// Why no store was made.
+/// Why no store was made, or what it was made for isn't done.
 #[derive(Clone, Copy, Debug, PartialEq, Eq)]
 pub enum MakeFault {
     /// A file's length isn't 0. Nothing was written.
     NotEmpty,
-    /// A call on a file failed; or there was no memory, and nothing was written.
+    /// A call on a file failed, or there was no memory. Nothing was written where there was none
+    /// for the store itself.
     Halt(Halt),
 }
 
-impl From<Failed> for MakeFault {
-    ghost use Rattle.ox_store.specs.declared.fault.MakeFault.TheVariants as faults;
+impl From<Halt> for MakeFault {
+    ghost use Rattle.ox_store.specs.declared.fault.MakeFault.TheVariants as makes;
 
-    ghost from_gives = { λ _ e. e ≡ faults.Halt halts.Disk };
+    ghost from_gives = { λ halt e. e ≡ makes.Halt halt };
 
-    fn from(_failed: Failed) -> MakeFault {
-        MakeFault::Halt(Halt::Disk)
-    }
-}
-
-impl From<DiskFault> for MakeFault {
-    ghost use Rattle.ox_store.specs.declared.fault.MakeFault.TheVariants as faults;
-
-    ghost from_gives = { λ _ e. e ≡ faults.Halt halts.Disk };
-
-    fn from(_fault: DiskFault) -> MakeFault {
-        MakeFault::Halt(Halt::Disk)
-    }
-}
-
-impl From<Memory> for MakeFault {
-    ghost use Rattle.ox_store.specs.declared.fault.MakeFault.TheVariants as faults;
-
-    ghost from_gives = { λ _ e. e ≡ faults.Halt halts.Memory };
-
-    fn from(_memory: Memory) -> MakeFault {
-        MakeFault::Halt(Halt::Memory)
+    fn from(halt: Halt) -> MakeFault {
+        MakeFault::Halt(halt)
     }
 }
 
@@ -139,26 +119,6 @@ pub enum MigrateFault {
     },
     /// A call on a file failed, or there was no memory for the store.
     Halt(Halt),
-}
-
-impl From<DiskFault> for MigrateFault {
-    ghost use Rattle.ox_store.specs.declared.fault.MigrateFault.TheVariants as faults;
-
-    ghost from_gives = { λ _ e. e ≡ faults.Halt halts.Disk };
-
-    fn from(_fault: DiskFault) -> MigrateFault {
-        MigrateFault::Halt(Halt::Disk)
-    }
-}
-
-impl From<Memory> for MigrateFault {
-    ghost use Rattle.ox_store.specs.declared.fault.MigrateFault.TheVariants as faults;
-
-    ghost from_gives = { λ _ e. e ≡ faults.Halt halts.Memory };
-
-    fn from(_memory: Memory) -> MigrateFault {
-        MigrateFault::Halt(Halt::Memory)
-    }
 }
 
 /// The store, which is as before, and why the command isn't prepared.

@@ -97,7 +97,9 @@ impl Store {
             commands,
             file,
         } = open_old(alloc, site)?;
-        let tail = tail.turn_to(site, &file)?;
+        let Ok(tail) = tail.turn_to(site, &file) else {
+            return Err(MigrateFault::Halt(Halt::Disk));
+        };
         let store = Store {
             alloc,
             chain,
@@ -162,7 +164,9 @@ fn old_store_of(alloc: Global, opened: Opened) -> Result<OldStore, MigrateFault>
         version: VERSION,
         ..opened.head
     };
-    let file = next_file(alloc, &chain, &head)?;
+    let Ok(file) = next_file(alloc, &chain, &head) else {
+        return Err(MigrateFault::Halt(Halt::Memory));
+    };
     Ok(OldStore {
         chain,
         tail: opened.tail,

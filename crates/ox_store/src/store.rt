@@ -14,7 +14,7 @@ ghost use Rattle.ox_model.specs.Stack.{stack_after};
 ghost use Rattle.ox_files.specs.Stands.{stack_in_file};
 ghost use Rattle.ox_rules.specs.Why.{Refuses};
 ghost use Rattle.ox_store.specs.Heads.{Names};
-ghost use Rattle.ox_store.specs.Make.{first_head, no_files};
+ghost use Rattle.ox_store.specs.Make.{first_head, made_stack, no_files};
 ghost use Rattle.ox_store.specs.Ready.{HasChange, left_by};
 ghost use Rattle.ox_store.specs.Writing.{IsDue, LeadsTo};
 ghost use Rattle.ox_store.specs.declared.fault.MakeFault.TheVariants as makes;
@@ -24,7 +24,7 @@ use crate::ready::Ready;
 use crate::writing::{VERSION, Writing, file_of, writing_of};
 use ox_bytes::Memory;
 use ox_feed::Command;
-use ox_gated::{Checkpoint, Head, Tail};
+use ox_gated::{Checkpoint, Halt, Head, Tail};
 use ox_index::{Chain, Changes, Live};
 use ox_model::About;
 use ox_outside::{Failed, Site, Which};
@@ -79,7 +79,6 @@ impl Model for Store {
 impl Store {
     ghost use Rattle.ox_index.specs.Live.{profile_in, index_in};
     ghost use Rattle.ox_files.specs.Stands.{stands};
-    ghost use Rattle.ox_store.specs.Make.{made_stack};
     ghost use Rattle.ox_store.specs.Ready.{Prepares};
 
     /// Makes two empty files a store without a block, whose chain counts by this profile and of
@@ -119,12 +118,18 @@ impl Store {
             (S.counts site.old) (S.counts site.new) }
         ensures writes { OnlyWrites S.Site site.old site.new }
     {
-        if !are_empty(site)? {
+        let Ok(empty) = are_empty(site) else {
+            return Err(MakeFault::Halt(Halt::Disk));
+        };
+        if !empty {
             return Err(MakeFault::NotEmpty);
         }
-        let chain = Chain::new(alloc, &profile_of(name), depth)?;
-        let checkpoint = first_file(alloc, &chain, name, depth)?;
-        let tail = Tail::make(site, &checkpoint)?;
+        let Ok((chain, checkpoint)) = first_parts(alloc, name, depth) else {
+            return Err(MakeFault::Halt(Halt::Memory));
+        };
+        let Ok(tail) = Tail::make(site, &checkpoint) else {
+            return Err(MakeFault::Halt(Halt::Disk));
+        };
         Ok(Store {
             alloc,
             chain,
@@ -219,26 +224,24 @@ impl Store {
     }
 }
 
-/// The file of a store without a block, of which this is the chain. `Memory` where there is none
-/// for it.
-fn first_file(
-    alloc: Global,
-    chain: &Chain,
-    name: ProfileName,
-    depth: u16,
-) -> Result<Checkpoint, Memory>
-    requires { Names (first_head name depth) (stack_in chain.now) }
-    ensures head { IfOk result (λ whole. whole.head ≡ first_head name depth) }
-    ensures stack { IfOk result (λ whole.
-        stack_in_file whole.head whole.body [] ≡ Ok (stack_in chain.now)) }
+/// The chain of a store without a block, and its file. `Memory` where there is none for them.
+fn first_parts(alloc: Global, name: ProfileName, depth: u16) -> Result<(Chain, Checkpoint), Memory>
+    requires { (1 ≤ depth) × (depth ≤ 1000) }
+    ensures stack { IfOk result (λ first. stack_in first.0 ≡ made_stack name depth) }
+    ensures head { IfOk result (λ first. first.1.head ≡ first_head name depth) }
+    ensures file { IfOk result (λ first.
+        stack_in_file first.1.head first.1.body [] ≡ Ok (stack_in first.0)) }
 {
+    let profile = profile_of(name);
+    let chain = Chain::new(alloc, &profile, depth)?;
     let head = Head {
         version: VERSION,
-        profile: profile_of(name).byte,
+        profile: profile.byte,
         depth,
         generation: 1,
     };
-    file_of(alloc, chain, &head)
+    let file = file_of(alloc, &chain, &head)?;
+    Ok((chain, file))
 }
 
 /// Carries out a command in memory, and makes what is written of it. Where no memory is found for

@@ -16,5 +16,5 @@ returns-clause-names c =
     let opened = c.args.opened in
     let stack = stack_in c.in-Ok.chain in
     let head : Head = record { version = 2; profile = opened.head.profile; depth = opened.head.depth; generation = opened.head.generation } in
-    subst (λ (h : Head). Names h stack) (sym c.in_ok-file.ensures.head)
+    subst (λ (h : Head). Names h stack) (sym c.in-Ok-next_file.ensures.head)
     (names_next head stack (names_migrated opened.head opened.body opened.records stack c.requires.lawful c.in-Ok.ensures.stack))
