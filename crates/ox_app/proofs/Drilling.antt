@@ -15,8 +15,8 @@ use Rattle.ox_gated.specs.declared.fault.Halt.TheVariants as halts
 use Rattle.ox_files.specs.Stands.{stands}
 use Rattle.ox_store.specs.Make.{no_files}
 use Rattle.ox_drill.specs.Drill.{DrillsInTurn, IsDrilled, drill_stack}
-use Rattle.ox_drill.specs.declared.fault.DrillFault.{DrillFault}
-use Rattle.ox_drill.specs.declared.fault.DrillFault.TheVariants as drills
+use Rattle.ox_store.specs.declared.fault.MakeFault.{MakeFault}
+use Rattle.ox_store.specs.declared.fault.MakeFault.TheVariants as makes
 use Rattle.ox_app.specs.Drill.{DrilledBefore, DrillsFirst, IsTold, RunsDrill}
 use Rattle.ox_app.specs.Show.{HearsNothing, ShowsFront}
 use Rattle.ox_app.specs.Status.{IsSparing, drill_status}
@@ -34,17 +34,17 @@ refused_untold : IsTold ends.NotEmpty → ⊥
 refused_untold (inl e) = cc e
 refused_untold (inr e) = cc e
 
-fault_untold : (fault : DrillFault) → IsTold (drill_status fault) → ⊥
-fault_untold drills.NotEmpty told = refused_untold told
-fault_untold (drills.Halt halts.Disk) (inl e) = cc e
-fault_untold (drills.Halt halts.Disk) (inr e) = cc e
-fault_untold (drills.Halt halts.Memory) (inl e) = cc e
-fault_untold (drills.Halt halts.Memory) (inr e) = cc e
+fault_untold : (fault : MakeFault) → IsTold (drill_status fault) → ⊥
+fault_untold makes.NotEmpty told = refused_untold told
+fault_untold (makes.Halt halts.Disk) (inl e) = cc e
+fault_untold (makes.Halt halts.Disk) (inr e) = cc e
+fault_untold (makes.Halt halts.Memory) (inl e) = cc e
+fault_untold (makes.Halt halts.Memory) (inr e) = cc e
 
-fault_spares : (fault : DrillFault) → IsSparing (drill_status fault)
-fault_spares drills.NotEmpty = inl refl
-fault_spares (drills.Halt halts.Disk) = inr (inl refl)
-fault_spares (drills.Halt halts.Memory) = inr (inr refl)
+fault_spares : (fault : MakeFault) → IsSparing (drill_status fault)
+fault_spares makes.NotEmpty = inl refl
+fault_spares (makes.Halt halts.Disk) = inr (inl refl)
+fault_spares (makes.Halt halts.Memory) = inr (inr refl)
 
 -- ---- what a crash leaves
 
@@ -93,7 +93,7 @@ module _ {S : Type 0} (means : Meanings S) where
   drill_refused line n old mid new looks talks = record {
     carries = record {
       over = mid;
-      ended = Err drills.NotEmpty;
+      ended = Err makes.NotEmpty;
       ends_as = refl;
       in_turn = inl looks;
       tells = talks_weaker means (ShowsFront line) HearsNothing mid new (λ events shows. shows.quiet) talks;
@@ -105,7 +105,7 @@ module _ {S : Type 0} (means : Meanings S) where
 
   -- a fault ends the drill
   pub drill_stopped : ((site : S) (r : Remains) → means.left_since site (means.clock site) r → means.may_leave site r) → ((site : S) (r : Remains) → means.may_leave site r → means.log site ≡ Some r.log)
-      → (fault : DrillFault) (n : ℕ) (old new : S) → DrillsInTurn {T = List ℕ} means n (Err fault) old new → OnlyWrites means old new → ((means.seen old ≡ no_files → ⊥) → OnlyLooks means old new)
+      → (fault : MakeFault) (n : ℕ) (old new : S) → DrillsInTurn {T = List ℕ} means n (Err fault) old new → OnlyWrites means old new → ((means.seen old ≡ no_files → ⊥) → OnlyLooks means old new)
       → RunsDrill means n (drill_status fault) old new
   drill_stopped only_now logs_now fault n old new turns writes spared = record {
     carries = record {

@@ -7,8 +7,6 @@ use Rattle.ox_outside.specs.declared.site.Site.{Ghosts as Meanings}
 use Rattle.ox_feed.specs.declared.lines.FeedFault.{FeedFault}
 use Rattle.ox_feed.specs.declared.lines.FeedFault.TheVariants as feeds
 use Rattle.ox_gated.specs.declared.fault.Halt.TheVariants as halts
-use Rattle.ox_drill.specs.declared.fault.DrillFault.{DrillFault}
-use Rattle.ox_drill.specs.declared.fault.DrillFault.TheVariants as drills
 use Rattle.ox_store.specs.declared.fault.MakeFault.{MakeFault}
 use Rattle.ox_store.specs.declared.fault.MakeFault.TheVariants as makes
 use Rattle.ox_store.specs.declared.fault.OpenFault.{OpenFault}
@@ -151,25 +149,6 @@ said_stops status old mid new refuses none said =
 -- a store that is made, and a drill that came to its line
 pub made_well : {T : Type 0} (x : T) (old new : Counts) → StopsAtFault (IsErrOf {T = T} {E = MakeFault} (Ok x) (makes.Halt halts.Disk)) ⊥ ⊥ old new → NoFault old new
 made_well {T} x old new stopped = went_on (IsErrOf {T = T} {E = MakeFault} (Ok x) (makes.Halt halts.Disk)) ⊥ ⊥ old new (λ is. cc is) (λ no. no) (λ no. no) stopped
-
-pub drilled_well : {T : Type 0} (x : T) (old new : Counts) → StopsAtFault (IsErrOf {T = T} {E = DrillFault} (Ok x) (drills.Halt halts.Disk)) ⊥ ⊥ old new → NoFault old new
-drilled_well {T} x old new stopped = went_on (IsErrOf {T = T} {E = DrillFault} (Ok x) (drills.Halt halts.Disk)) ⊥ ⊥ old new (λ is. cc is) (λ no. no) (λ no. no) stopped
-
-pub drill_disk_stops : {T : Type 0} (fault : DrillFault) (old new : Counts) → StopsAtFault (IsErrOf {T = T} (Err fault) (drills.Halt halts.Disk)) ⊥ ⊥ old new → EndsAtFault ends.DiskFault old new
-drill_disk_stops {T} fault old new stopped =
-    stops_as (IsErrOf {T = T} (Err fault) (drills.Halt halts.Disk)) ⊥ ⊥ (ends.DiskFault ≡ ends.DiskFault) (ends.DiskFault ≡ ends.HearFault) ((ends.DiskFault ≡ ends.ShowFault) ⊎ IsRefusal ends.DiskFault) old new
-    (λ is. refl) (λ no. absurd no) (λ no. absurd no) stopped
-
-pub memory_drilled : (fault : DrillFault) → fault ≡ drills.Halt halts.Memory → fault ≡ drills.Halt halts.Disk → ⊥
-memory_drilled fault is other = let e : drills.Halt halts.Memory ≡ drills.Halt halts.Disk = sym is ∙ other in cc e
-
-pub none_drilled : (fault : DrillFault) → fault ≡ drills.NotEmpty → fault ≡ drills.Halt halts.Disk → ⊥
-none_drilled fault is other = let e : drills.NotEmpty ≡ drills.Halt halts.Disk = sym is ∙ other in cc e
-
--- a drill that ends for another reason than the disk
-pub not_drilled : {T : Type 0} (fault : DrillFault) (old new : Counts) → (fault ≡ drills.Halt halts.Disk → ⊥) → StopsAtFault (IsErrOf {T = T} (Err fault) (drills.Halt halts.Disk)) ⊥ ⊥ old new → NoFault old new
-not_drilled {T} fault old new other stopped =
-    went_on (IsErrOf {T = T} (Err fault) (drills.Halt halts.Disk)) ⊥ ⊥ old new (λ is. let e : fault ≡ drills.Halt halts.Disk = cc is in other e) (λ no. no) (λ no. no) stopped
 
 pub make_disk_stops : {T : Type 0} (fault : MakeFault) (old new : Counts) → StopsAtFault (IsErrOf {T = T} (Err fault) (makes.Halt halts.Disk)) ⊥ ⊥ old new → EndsAtFault ends.DiskFault old new
 make_disk_stops {T} fault old new stopped =

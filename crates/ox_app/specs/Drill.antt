@@ -9,7 +9,7 @@ use Rattle.ox_files.specs.Stands.{stands}
 use Rattle.ox_store.specs.Make.{no_files}
 use Rattle.ox_drill.specs.Drill.{DrillsInTurn, IsDrilled, drill_stack}
 use Rattle.ox_drill.specs.Line.{drill_line}
-use Rattle.ox_drill.specs.declared.fault.DrillFault.{DrillFault}
+use Rattle.ox_store.specs.declared.fault.MakeFault.{MakeFault}
 use Rattle.ox_app.specs.Headline.{AddsNoImage}
 use Rattle.ox_app.specs.Show.{HearsNothing}
 use Rattle.ox_app.specs.Status.{IsSparing, drill_status}
@@ -25,7 +25,7 @@ abbrev pub IsTold : Status → Type 0
 IsTold status = (status ≡ ends.Done) ⊎ (status ≡ ends.ShowFault)
 
 -- how a run ends whose drill ended so
-abbrev pub EndsAs : Result (List ℕ) DrillFault → Status → Type 0
+abbrev pub EndsAs : Result (List ℕ) MakeFault → Status → Type 0
 EndsAs (Ok line) status = IsTold status
 EndsAs (Err fault) status = status ≡ drill_status fault
 
@@ -34,7 +34,7 @@ EndsAs (Err fault) status = status ≡ drill_status fault
 pub record CarriesThenTells {S : Type 0} (means : Meanings S) (n : ℕ) (status : Status)
     (old new : S) : Type 0 where
   pub over : S
-  pub ended : Result (List ℕ) DrillFault
+  pub ended : Result (List ℕ) MakeFault
   pub ends_as : EndsAs ended status
   pub in_turn : DrillsInTurn means n ended old over
   pub tells : OnlyTalks means HearsNothing over new

@@ -13,8 +13,8 @@ use Rattle.ox_store.specs.declared.fault.OpenFault.{OpenFault}
 use Rattle.ox_store.specs.declared.fault.OpenFault.TheVariants as opens
 use Rattle.ox_follow.specs.Talk.{End}
 use Rattle.ox_follow.specs.Talk as talks
-use Rattle.ox_drill.specs.declared.fault.DrillFault.{DrillFault}
-use Rattle.ox_drill.specs.declared.fault.DrillFault.TheVariants as drills
+use Rattle.ox_store.specs.declared.fault.MakeFault.{MakeFault}
+use Rattle.ox_store.specs.declared.fault.MakeFault.TheVariants as makes
 use Rattle.ox_app.specs.declared.server.ServeFault.{ServeFault}
 use Rattle.ox_app.specs.declared.server.ServeFault.TheVariants as serves
 use Rattle.ox_app.specs.declared.stop.Stop.{Stop}
@@ -68,9 +68,9 @@ open_status (opens.NotStore file at) = NotStore
 open_status (opens.Halt halt) = halt_status halt
 
 -- how a drill ends that a fault ended
-abbrev pub drill_status : DrillFault → Status
-drill_status drills.NotEmpty = NotEmpty
-drill_status (drills.Halt halt) = halt_status halt
+abbrev pub drill_status : MakeFault → Status
+drill_status makes.NotEmpty = NotEmpty
+drill_status (makes.Halt halt) = halt_status halt
 
 -- how a run ends that frames ended, or the end of channel 0 behind them
 abbrev pub end_status : End → Status

@@ -12,9 +12,10 @@ ghost use Rattle.ox_app.specs.declared.status.Status.TheVariants as ends;
 
 use crate::show::{say, tell};
 use crate::status::Status;
-use ox_drill::{DrillFault, drill_store};
+use ox_drill::drill_store;
 use ox_gated::Halt;
 use ox_outside::Site;
+use ox_store::MakeFault;
 use std::alloc::Global;
 
 /// Makes a store, carries out the commands of a drill of n blocks, and shows its line.
@@ -34,11 +35,11 @@ pub fn drill<S: Site>(alloc: Global, site: &mut S, n: u32) -> Status
 {
     match drill_store(alloc, site, n) {
         Ok(line) => tell(site, line.as_slice()),
-        Err(DrillFault::NotEmpty) => {
+        Err(MakeFault::NotEmpty) => {
             say(site, b"not empty\n");
             Status::NotEmpty
         }
-        Err(DrillFault::Halt(Halt::Disk)) => Status::DiskFault,
-        Err(DrillFault::Halt(Halt::Memory)) => Status::Memory,
+        Err(MakeFault::Halt(Halt::Disk)) => Status::DiskFault,
+        Err(MakeFault::Halt(Halt::Memory)) => Status::Memory,
     }
 }

@@ -8,7 +8,6 @@ ghost use Rattle.ox_drill.specs.Chain.{blocks_from, connects, drill_block};
 ghost use Rattle.ox_drill.specs.Drill.{Carries, InStep, StopsOnDisk};
 
 use crate::blocks::{Behind, next_block};
-use crate::fault::DrillFault;
 use ox_feed::Command;
 use ox_gated::Halt;
 use ox_outside::Site;
@@ -16,7 +15,7 @@ use ox_store::{Kept, Store, Why};
 use std::alloc::Global;
 
 /// Carries out a command. A refused one leaves the store as it is.
-fn carry<S: Site>(store: Store, command: &Command, site: &mut S) -> Result<Store, DrillFault>
+fn carry<S: Site>(store: Store, command: &Command, site: &mut S) -> Result<Store, Halt>
     requires in_step { IsTrue (S.told site.old) → InStep S.Site store site.old }
     requires few { store.commands < 2 ^ 64 - 1 }
     ensures carries { Carries S.Site store (command.now ∷ []) result site.old site.new }
@@ -26,7 +25,7 @@ fn carry<S: Site>(store: Store, command: &Command, site: &mut S) -> Result<Store
         Ok(ready) => Ok(ready.commit(site)?),
         Err(Kept { store, why }) => match why {
             Why::Refused(_refusal) => Ok(store),
-            Why::Memory => Err(DrillFault::Halt(Halt::Memory)),
+            Why::Memory => Err(Halt::Memory),
         },
     }
 }
@@ -37,7 +36,7 @@ fn connect_next<S: Site>(
     store: Store,
     behind: &mut Behind,
     site: &mut S,
-) -> Result<Store, DrillFault>
+) -> Result<Store, Halt>
     requires place { behind.old ≡ behind_of behind.old.height }
     requires low { behind.old.height < 2 ^ 32 - 1 }
     requires in_step { IsTrue (S.told site.old) → InStep S.Site store site.old }
@@ -60,7 +59,7 @@ pub(crate) fn connect_blocks<S: Site>(
     behind: &mut Behind,
     count: u32,
     site: &mut S,
-) -> Result<Store, DrillFault>
+) -> Result<Store, Halt>
     requires place { behind.old ≡ behind_of behind.old.height }
     requires low { behind.old.height + count < 2 ^ 32 }
     requires in_step { IsTrue (S.told site.old) → InStep S.Site store site.old }
@@ -82,7 +81,7 @@ pub(crate) fn disconnect_blocks<S: Site>(
     store: Store,
     count: u32,
     site: &mut S,
-) -> Result<Store, DrillFault>
+) -> Result<Store, Halt>
     requires in_step { IsTrue (S.told site.old) → InStep S.Site store site.old }
     requires few { store.commands + count < 2 ^ 64 }
     ensures carries { Carries S.Site store (replicate count commands.Disconnect) result

@@ -4,11 +4,9 @@
 mod blocks;
 mod carry;
 mod drill;
-mod fault;
 mod laws;
 mod line;
 
 pub use blocks::{Behind, first_behind, next_block};
 pub use drill::drill_store;
-pub use fault::DrillFault;
 pub use laws::{commands_come_in_turn, drills_are_accepted};

@@ -5,17 +5,17 @@ use Rattle.std.proofs.lemmas.List.{length-replicate}
 use Rattle.std.proofs.lemmas.Result.{err_from_is_err_and}
 use Rattle.ox_feed.specs.declared.command.Command.TheVariants.{Disconnect}
 use Rattle.ox_outside.specs.declared.site.Site.{Ghosts as Meanings}
+use Rattle.ox_gated.specs.declared.fault.Halt.{Halt}
 use Rattle.ox_store.specs.Store.{StoreContents}
 use Rattle.ox_drill.specs.Chain.{blocks_from, connects}
 use Rattle.ox_drill.specs.Drill.{Carries}
 use Rattle.ox_drill.specs.declared.blocks.Behind.{Behind}
-use Rattle.ox_drill.specs.declared.fault.DrillFault.{DrillFault}
 use Rattle.ox_drill.proofs.Lists.{commands_are, length-connects, newest_back, oldest_in_hand}
 use Rattle.ox_drill.proofs.Parts.{carries_broken, carries_none, carries_same, carries_then, stops_then, stops_with}
 use Rattle.ox_drill.proofs.drill.carry_all.Goals as goal
 
 -- what is connected from a height on
-from_height : {S : Type 0} (means : Meanings S) (store : StoreContents) (height same some : ℕ) (result : Result StoreContents DrillFault) (old new : S) → height ≡ same
+from_height : {S : Type 0} (means : Meanings S) (store : StoreContents) (height same some : ℕ) (result : Result StoreContents Halt) (old new : S) → height ≡ same
     → Carries means store (connects (blocks_from height some)) result old new → Carries means store (connects (blocks_from same some)) result old new
 from_height means store height same some result old new is carried =
     subst (λ (h : ℕ). Carries means store (connects (blocks_from h some)) result old new) is carried
