@@ -25,6 +25,7 @@ ghost use Rattle.ox_app.specs.declared.status.Status.TheVariants as ends;
 use crate::show::show_all;
 use crate::status::Status;
 use crate::talk::frame_in_front;
+use crate::unopened::unopened;
 use ox_follow::{Frame, Position, have_front};
 use ox_gated::Halt;
 use ox_outside::{Failed, Site};
@@ -56,7 +57,7 @@ fn take<S: Site>(follower: Follower, frame: &Frame, site: &mut S) -> Result<Foll
     match follower.take(frame) {
         Ok(taken) => match taken.commit(site) {
             Ok(next) => Ok(next),
-            Err(fault) => Err(Status::from(Halt::from(fault))),
+            Err(fault) => Err(Status::halted(Halt::from(fault))),
         },
         Err(NotTaken::NotNext(follower)) => Ok(follower),
         Err(NotTaken::NotFit(_)) => Err(Status::BadFrame),
@@ -152,6 +153,6 @@ pub fn follow<S: Site>(alloc: Global, site: &mut S) -> Status
 {
     match Follower::open(alloc, site) {
         Ok(follower) => follow_frames(alloc, follower, site),
-        Err(fault) => Status::from(fault),
+        Err(fault) => unopened(fault),
     }
 }

@@ -18,6 +18,7 @@ ghost use Rattle.ox_app.specs.declared.status.Status.TheVariants as ends;
 
 use crate::status::Status;
 use crate::talk::{frame_in_front, show_frame};
+use crate::unopened::unopened;
 use ox_follow::Frame;
 use ox_outside::Site;
 use ox_pieces::{Frames, Leader};
@@ -92,6 +93,6 @@ pub fn lead<S: Site>(alloc: Global, site: &mut S) -> Status
 {
     match Leader::open(alloc, site) {
         Ok(leader) => answer_frames(alloc, &leader, site),
-        Err(fault) => Status::from(fault),
+        Err(fault) => unopened(fault),
     }
 }

@@ -1,13 +1,12 @@
 //! How a run ends.
 
 ghost use Rattle.std.specs.Prelude.{◌≡◌};
-ghost use Rattle.ox_app.specs.Status.{code_of};
+ghost use Rattle.ox_app.specs.Status.{code_of, halt_status};
 
 use ox_feed::FeedFault;
 use ox_follow::BadFrame;
 use ox_gated::Halt;
 use ox_outside::Failed;
-use ox_store::OpenFault;
 
 /// How a run ended.
 #[derive(Clone, Copy, Debug, PartialEq, Eq)]
@@ -66,6 +65,16 @@ impl Status {
             Status::EndedEarly => 13,
         }
     }
+
+    /// How a run ends that was halted.
+    pub fn halted(halt: Halt) -> Status
+        ensures { result ≡ halt_status halt }
+    {
+        match halt {
+            Halt::Disk => Status::DiskFault,
+            Halt::Memory => Status::Memory,
+        }
+    }
 }
 
 impl From<FeedFault> for Status {
@@ -78,32 +87,6 @@ impl From<FeedFault> for Status {
             FeedFault::HearFault => Status::HearFault,
             FeedFault::TooMuch => Status::TooMuch,
             FeedFault::Memory => Status::Memory,
-        }
-    }
-}
-
-impl From<Halt> for Status {
-    ghost use Rattle.ox_app.specs.Status.{halt_status};
-
-    ghost from_gives = { λ halt status. status ≡ halt_status halt };
-
-    fn from(halt: Halt) -> Status {
-        match halt {
-            Halt::Disk => Status::DiskFault,
-            Halt::Memory => Status::Memory,
-        }
-    }
-}
-
-impl From<OpenFault> for Status {
-    ghost use Rattle.ox_app.specs.Status.{open_status};
-
-    ghost from_gives = { λ fault status. status ≡ open_status fault };
-
-    fn from(fault: OpenFault) -> Status {
-        match fault {
-            OpenFault::NotStore { .. } => Status::NotStore,
-            OpenFault::Halt(halt) => Status::from(halt),
         }
     }
 }

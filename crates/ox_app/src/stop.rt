@@ -28,7 +28,7 @@ pub fn status(outcome: Result<(), Stop>) -> Status
 {
     match outcome {
         Ok(()) => Status::Done,
-        Err(Stop::Halt(halt)) => Status::from(halt),
+        Err(Stop::Halt(halt)) => Status::halted(halt),
         Err(Stop::HearFault) => Status::HearFault,
         Err(Stop::ShowFault) => Status::ShowFault,
         Err(Stop::TooMuch) => Status::TooMuch,

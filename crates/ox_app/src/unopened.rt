@@ -3,7 +3,7 @@
 ghost use Rattle.std.specs.Prelude.{◌≡◌, ◌≢◌, IfOk};
 ghost use Rattle.ox_outside.specs.Counts.{StopsAtFault};
 ghost use Rattle.ox_outside.specs.Runs.{OnlyTalks};
-ghost use Rattle.ox_app.specs.Status.{IsUnopened};
+ghost use Rattle.ox_app.specs.Status.{IsUnopened, open_status};
 ghost use Rattle.ox_app.specs.Unopened.{LogsUnopened, UnopenedAs, letter_of, not_store_line};
 ghost use Rattle.ox_app.specs.declared.status.Status.TheVariants as ends;
 
@@ -34,6 +34,16 @@ fn not_store_text(alloc: Global, file: Which, at: u64) -> Result<Bytes, Memory>
     Ok(Bytes::from_vec(text.into_bytes()))
 }
 
+/// How a run ends whose files weren't opened.
+pub fn unopened(fault: OpenFault) -> Status
+    ensures { result ≡ open_status fault }
+{
+    match fault {
+        OpenFault::NotStore { .. } => Status::NotStore,
+        OpenFault::Halt(halt) => Status::halted(halt),
+    }
+}
+
 /// Shows why files weren't opened, where they are no store, and says how the run ends: `NotStore`
 /// then, `DiskFault` where a call on a file failed, and `Memory` where there was none.
 pub fn explain<S: Site>(alloc: Global, fault: OpenFault, site: &mut S) -> Status
@@ -51,6 +61,6 @@ pub fn explain<S: Site>(alloc: Global, fault: OpenFault, site: &mut S) -> Status
             }
             Err(Memory) => Status::Memory,
         },
-        OpenFault::Halt(halt) => Status::from(halt),
+        OpenFault::Halt(halt) => Status::halted(halt),
     }
 }

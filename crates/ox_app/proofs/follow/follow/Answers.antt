@@ -54,7 +54,7 @@ returns-in-Err g c =
     let mid = c.open.new.site in
     let log = means.log in
     let looks = c.open.ensures.looks in
-    let is = sym c.from.ensures in record {
+    let is = sym c.unopened.ensures in record {
       follows = λ told mine opened. (
         subst (λ (s : Status). s ≡ ends.NotStore → ⊥) is (no_misfit_there (led_stands (means.seen old)) mine.state c.in-Err.fault (stands_for_stood (means.seen old) mine opened) (c.in-Err.ensures.not_store told)),
         subst (λ (s : Status). Grows (RunsTalk (follower_party mine) s) (log old) (log mid)) is

@@ -45,7 +45,7 @@ returns-in-Err g c =
     let mid = c.open.new.site in
     let log = g.S.Site.log in
     let looks = c.open.ensures.looks in
-    let is = sym c.from.ensures in record {
+    let is = sym c.unopened.ensures in record {
       leads = λ told leader opened. (
         subst (λ (s : Status). s ≡ ends.NotStore → ⊥) is (no_misfit_there (led_stands (g.S.Site.seen old)) leader.state c.in-Err.fault (leader_stands (g.S.Site.seen old) leader opened) (c.in-Err.ensures.not_store told)),
         subst (λ (s : Status). Grows (RunsTalk (leader_party leader) s) (log old) (log mid)) is

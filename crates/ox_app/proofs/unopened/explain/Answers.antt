@@ -42,10 +42,10 @@ halted halts.Memory = inr (inr refl)
 
 pub returns-in-Halt : goal.returns-in-Halt
 returns-in-Halt g c = record {
-  status = subst IsUnopened (sym c.from.ensures) (halted c.in-Halt.halt);
+  status = subst IsUnopened (sym c.halted.ensures) (halted c.in-Halt.halt);
   says =
-      subst (λ (f : OpenFault). UnopenedAs g.S.Site f c.from.result c.args.site.now c.args.site.now) (sym c.in-Halt.is)
-      ((c.from.ensures, refl));
+      subst (λ (f : OpenFault). UnopenedAs g.S.Site f c.halted.result c.args.site.now c.args.site.now) (sym c.in-Halt.is)
+      ((c.halted.ensures, refl));
   counted = stops_at_none _ _ _ _ _ (no_fault_yet (g.S.Site.counts c.args.site.now));
   talks =
       subst (λ (f : OpenFault). OnlyTalks g.S.Site (LogsUnopened f) c.args.site.now c.args.site.now) (sym c.in-Halt.is)
