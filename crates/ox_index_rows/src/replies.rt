@@ -1,8 +1,7 @@
 //! Replies, in lines.
 
-use crate::print::{print_hex, say};
+use crate::print::Page;
 use ox_http::Reply;
-use std::io;
 
 /// A body of more bytes is shown by its length and a checksum.
 const MOST_SHOWN: usize = 20_000;
@@ -18,44 +17,50 @@ fn checksum_of(bytes: &[u8]) -> u64 {
 
 /// A body as it stands where it is text in one line, else in hex digits, and by its checksum where
 /// it is long.
-fn print_body(rt: &impl Print, body: &[u8]) -> io::Result<()> {
+fn print_body(page: &mut Page, body: &[u8]) {
     if body.len() > MOST_SHOWN {
-        return print!(rt; " ({} bytes, checksum {})", body.len(), checksum_of(body));
+        page.count(" (", body.len() as u128);
+        page.count(" bytes, checksum ", checksum_of(body) as u128);
+        return page.say(")");
     }
     match str::from_utf8(body) {
-        Ok(text) if !body.contains(&b'\n') => print!(rt; " {text}"),
-        _ => print_digits(rt, body),
+        Ok(text) if !body.contains(&b'\n') => print_text(page, text),
+        _ => print_digits(page, body),
     }
+}
+
+/// A body as it stands.
+fn print_text(page: &mut Page, text: &str) {
+    page.put(" ");
+    page.say(text)
 }
 
 /// A body in hex digits.
-fn print_digits(rt: &impl Print, body: &[u8]) -> io::Result<()> {
-    print!(rt; " (hex) ")?;
-    print_hex(rt, body)
+fn print_digits(page: &mut Page, body: &[u8]) {
+    page.put(" (hex) ");
+    page.hex(body);
+    page.say("")
 }
 
 /// A part of a reply's head.
-fn print_part(rt: &impl Print, bytes: &[u8]) -> io::Result<()> {
-    print!(rt; " <{}>", str::from_utf8(bytes).unwrap_or("no text"))
+fn print_part(page: &mut Page, bytes: &[u8]) {
+    page.put(" <");
+    page.put(str::from_utf8(bytes).unwrap_or("no text"));
+    page.put(">")
 }
 
 /// A reply's head.
-fn print_head(rt: &impl Print, reply: &Reply) -> io::Result<()> {
-    print!(rt;
-        "{}{}",
-        reply.status,
-        if reply.close { " close" } else { "" }
-    )?;
-    print_part(rt, reply.kind.as_slice())?;
-    match &reply.encoding {
-        Some(encoding) => print_part(rt, encoding.as_slice()),
-        None => Ok(()),
+fn print_head(page: &mut Page, reply: &Reply) {
+    page.count("", reply.status as u128);
+    page.put(if reply.close { " close" } else { "" });
+    print_part(page, reply.kind.as_slice());
+    if let Some(encoding) = &reply.encoding {
+        print_part(page, encoding.as_slice());
     }
 }
 
 /// A reply in a line.
-pub fn print_reply(rt: &impl Print, reply: &Reply) -> io::Result<()> {
-    print_head(rt, reply)?;
-    print_body(rt, reply.body.as_slice())?;
-    say(rt, "")
+pub fn print_reply(page: &mut Page, reply: &Reply) {
+    print_head(page, reply);
+    print_body(page, reply.body.as_slice())
 }
