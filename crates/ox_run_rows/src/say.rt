@@ -1,49 +1,18 @@
 //! What is printed.
 
+use crate::page::Page;
 use crate::words::{NO_ROW, file_of, number_of};
 use ox_feed::{Command, FeedFault, Line, SyntaxFault, command_of};
 use ox_gated::frame;
 use ox_memsite::MemSite;
 use ox_outside::{Failed, Heard, Shown};
 use std::alloc::Global;
-use std::io;
 
 /// The most bytes that are printed whole as text.
 const WHOLE: usize = 1024;
 
 /// How many are printed of more than these.
 const FRONT: usize = 200;
-
-/// A text, in a line.
-pub fn say(rt: &impl Print, text: &str) -> io::Result<()> {
-    println!(rt; "{text}")
-}
-
-/// Bytes in hex digits.
-pub fn print_hex(rt: &impl Print, bytes: &[u8]) -> io::Result<()> {
-    for byte in bytes {
-        print!(rt; "{byte:02x}")?;
-    }
-    Ok(())
-}
-
-/// Bytes in hex digits, in a line.
-pub fn print_hex_line(rt: &impl Print, bytes: &[u8]) -> io::Result<()> {
-    print_hex(rt, bytes)?;
-    say(rt, "")
-}
-
-/// Bytes as text.
-fn print_text(rt: &impl Print, bytes: &[u8]) -> io::Result<()> {
-    for &byte in bytes {
-        if (32..127).contains(&byte) && byte != b'\\' {
-            print!(rt; "{}", byte as char)?;
-        } else {
-            print!(rt; "\\{byte:02x}")?;
-        }
-    }
-    Ok(())
-}
 
 /// The number that bytes come to.
 pub fn sum_of(bytes: &[u8]) -> u64 {
@@ -55,33 +24,33 @@ pub fn sum_of(bytes: &[u8]) -> u64 {
 }
 
 /// Bytes, or the first of them, how many there are and what all come to.
-fn print_bytes(rt: &impl Print, bytes: &[u8]) -> io::Result<()> {
+fn print_bytes(page: &mut Page, bytes: &[u8]) {
     if bytes.len() <= WHOLE {
-        return print_text(rt, bytes);
+        return page.text(bytes);
     }
     let (front, _) = bytes.split_at(FRONT);
-    print_text(rt, front)?;
-    print!(rt; ".. {} bytes, checksum {}", bytes.len(), sum_of(bytes))
+    page.text(front);
+    page.count(".. ", bytes.len() as u64);
+    page.count(" bytes, checksum ", sum_of(bytes))
 }
 
 /// What was shown on a channel.
-pub fn print_shown(rt: &impl Print, site: &MemSite, channel: u32) -> io::Result<()> {
+pub fn print_shown(page: &mut Page, site: &MemSite, channel: u32) {
     match site.shown(channel) {
-        Ok(shown) => print_bytes(rt, shown.as_slice())?,
-        Err(_) => return say(rt, NO_ROW),
+        Ok(shown) => print_bytes(page, shown.as_slice()),
+        Err(_) => return page.say(NO_ROW),
     }
-    say(rt, "")
+    page.say("")
 }
 
 /// What the links of these numbers were shown.
-pub fn print_links(rt: &impl Print, site: &MemSite, links: &[&str]) -> io::Result<()> {
+pub fn print_links(page: &mut Page, site: &MemSite, links: &[&str]) {
     for link in links {
         let Ok(link) = link.parse() else {
-            return say(rt, NO_ROW);
+            return page.say(NO_ROW);
         };
-        print_shown(rt, site, link)?;
+        print_shown(page, site, link);
     }
-    Ok(())
 }
 
 /// A file's length, and its bytes from a place on.
@@ -91,75 +60,77 @@ fn file_from<'a>(site: &'a MemSite, file: &str, from: &str) -> Option<(usize, &'
 }
 
 /// Prints a file's length, and its bytes from a place on.
-pub fn print_file(rt: &impl Print, site: &MemSite, file: &str, from: &str) -> io::Result<()> {
+pub fn print_file(page: &mut Page, site: &MemSite, file: &str, from: &str) {
     let Some((len, rest)) = file_from(site, file, from) else {
-        return say(rt, NO_ROW);
+        return page.say(NO_ROW);
     };
-    print!(rt; "{len} bytes: ")?;
-    print_hex_line(rt, rest)
+    page.count("", len as u64);
+    page.put(" bytes: ");
+    page.hex_line(rest)
 }
 
 /// How many bytes were heard, and the room as it is then.
-fn print_count(rt: &impl Print, count: usize, room: &[u8]) -> io::Result<()> {
-    print!(rt; "{count}: ")?;
-    print_hex_line(rt, room)
+fn print_count(page: &mut Page, count: usize, room: &[u8]) {
+    page.count("", count as u64);
+    page.put(": ");
+    page.hex_line(room)
 }
 
 /// The answer of a hearing, and the room as it is then.
-pub fn print_heard(rt: &impl Print, heard: Result<Heard, Failed>, room: &[u8]) -> io::Result<()> {
+pub fn print_heard(page: &mut Page, heard: Result<Heard, Failed>, room: &[u8]) {
     let told = match heard {
-        Ok(Heard::Bytes(count)) => return print_count(rt, count, room),
-        Ok(Heard::NotYet) => "nothing yet",
-        Ok(Heard::End) => "end",
-        Err(Failed) => "failed",
+        Ok(Heard::Bytes(count)) => return print_count(page, count, room),
+        Ok(Heard::NotYet) => "nothing yet: ",
+        Ok(Heard::End) => "end: ",
+        Err(Failed) => "failed: ",
     };
-    print!(rt; "{told}: ")?;
-    print_hex_line(rt, room)
+    page.put(told);
+    page.hex_line(room)
 }
 
 /// The answer of a showing.
-pub fn print_took(rt: &impl Print, took: Result<Shown, Failed>) -> io::Result<()> {
+pub fn print_took(page: &mut Page, took: Result<Shown, Failed>) {
     match took {
-        Ok(Shown::Took(count)) => println!(rt; "took {count}"),
-        Ok(Shown::NotYet) => say(rt, "nothing yet"),
-        Err(Failed) => say(rt, "failed"),
+        Ok(Shown::Took(count)) => page.count_line("took ", count as u64),
+        Ok(Shown::NotYet) => page.say("nothing yet"),
+        Err(Failed) => page.say("failed"),
     }
 }
 
 /// A block that is connected, behind its line.
-fn print_connect(rt: &impl Print, block: &[u8]) -> io::Result<()> {
-    print!(rt; ": connect ")?;
-    print_hex_line(rt, block)
+fn print_connect(page: &mut Page, block: &[u8]) {
+    page.put(": connect ");
+    page.hex_line(block)
 }
 
 /// A line's bytes, and the command that they are.
-fn print_command(rt: &impl Print, alloc: Global, text: &[u8]) -> io::Result<()> {
-    print_bytes(rt, text)?;
+fn print_command(page: &mut Page, alloc: Global, text: &[u8]) {
+    print_bytes(page, text);
     match command_of(alloc, text) {
-        Ok(Command::Connect(block)) => print_connect(rt, block.as_slice()),
-        Ok(Command::Disconnect) => say(rt, ": disconnect"),
-        Err(SyntaxFault::Syntax) => say(rt, ": no command"),
-        Err(SyntaxFault::Memory) => say(rt, ": no memory"),
+        Ok(Command::Connect(block)) => print_connect(page, block.as_slice()),
+        Ok(Command::Disconnect) => page.say(": disconnect"),
+        Err(SyntaxFault::Syntax) => page.say(": no command"),
+        Err(SyntaxFault::Memory) => page.say(": no memory"),
     }
 }
 
 /// A line, and the command that it is.
-pub fn print_line(rt: &impl Print, alloc: Global, line: Result<Line, FeedFault>) -> io::Result<()> {
+pub fn print_line(page: &mut Page, alloc: Global, line: Result<Line, FeedFault>) {
     match line {
-        Ok(Line::Text(text)) => print_command(rt, alloc, text.as_slice()),
-        Ok(Line::Long) => say(rt, "too long"),
-        Ok(Line::End) => say(rt, "end"),
-        Err(_) => say(rt, "a fault"),
+        Ok(Line::Text(text)) => print_command(page, alloc, text.as_slice()),
+        Ok(Line::Long) => page.say("too long"),
+        Ok(Line::End) => page.say("end"),
+        Err(_) => page.say("a fault"),
     }
 }
 
 /// The record of a payload, but for its first gate.
-pub fn print_frame(rt: &impl Print, alloc: Global, payload: &[u8]) -> io::Result<()> {
+pub fn print_frame(page: &mut Page, alloc: Global, payload: &[u8]) {
     if payload.len() > 0xffff_ffff {
-        return say(rt, "too long");
+        return page.say("too long");
     }
     match frame(alloc, payload) {
-        Ok(framed) => print_hex_line(rt, framed.as_slice()),
-        Err(_) => say(rt, NO_ROW),
+        Ok(framed) => page.hex_line(framed.as_slice()),
+        Err(_) => page.say(NO_ROW),
     }
 }

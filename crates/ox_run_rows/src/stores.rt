@@ -14,8 +14,8 @@
 ghost use Rattle.std.specs.Prelude.{◌≤◌};
 
 use crate::carry::carry_out_all;
+use crate::page::Page;
 use crate::runs::site_after_crash;
-use crate::say::say;
 use crate::say_store::{
     print_migrated, print_place, print_store, print_unmade, print_unmigrated, print_unopened,
 };
@@ -26,132 +26,115 @@ use ox_model::View;
 use ox_sat::ProfileName;
 use ox_store::Store;
 use std::alloc::Global;
-use std::io;
 
 /// Makes the files a store, and carries commands out on it.
 fn make(
-    rt: &impl Print,
+    page: &mut Page,
     alloc: Global,
     site: &mut MemSite,
     name: ProfileName,
     depth: u16,
     commands: &[Command],
-) -> io::Result<()>
+)
     requires { (1 ≤ depth) × (depth ≤ 1000) }
 {
     match Store::make(alloc, site, name, depth) {
-        Ok(store) => carry_out_all(rt, alloc, store, commands, site),
-        Err(fault) => print_unmade(rt, fault),
+        Ok(store) => carry_out_all(page, alloc, store, commands, site),
+        Err(fault) => print_unmade(page, fault),
     }
 }
 
 /// The same for the words of a row.
 fn make_by(
-    rt: &impl Print,
+    page: &mut Page,
     alloc: Global,
     site: &mut MemSite,
     profile: &str,
     depth: &str,
     words: &[&str],
-) -> io::Result<()> {
+) {
     let Some(name) = profile_of(profile) else {
-        return say(rt, NO_ROW);
+        return page.say(NO_ROW);
     };
     let Some(depth) = depth_of(depth) else {
-        return say(rt, NO_ROW);
+        return page.say(NO_ROW);
     };
     match commands_of(alloc, words) {
-        Some(commands) => make(rt, alloc, site, name, depth, &commands),
-        None => say(rt, NO_ROW),
+        Some(commands) => make(page, alloc, site, name, depth, &commands),
+        None => page.say(NO_ROW),
     }
 }
 
 /// Opens the store, and carries commands out on it.
-fn open(
-    rt: &impl Print,
-    alloc: Global,
-    site: &mut MemSite,
-    commands: &[Command],
-) -> io::Result<()> {
+fn open(page: &mut Page, alloc: Global, site: &mut MemSite, commands: &[Command]) {
     match Store::open(alloc, site) {
-        Ok(store) => carry_out_all(rt, alloc, store, commands, site),
-        Err(fault) => print_unopened(rt, fault),
+        Ok(store) => carry_out_all(page, alloc, store, commands, site),
+        Err(fault) => print_unopened(page, fault),
     }
 }
 
 /// The same for the words of a row.
-fn open_by(rt: &impl Print, alloc: Global, site: &mut MemSite, words: &[&str]) -> io::Result<()> {
+fn open_by(page: &mut Page, alloc: Global, site: &mut MemSite, words: &[&str]) {
     match commands_of(alloc, words) {
-        Some(commands) => open(rt, alloc, site, &commands),
-        None => say(rt, NO_ROW),
+        Some(commands) => open(page, alloc, site, &commands),
+        None => page.say(NO_ROW),
     }
 }
 
 /// Opens the store, a body of version 3 in pieces of at most so many bytes.
-fn open_in_pieces(
-    rt: &impl Print,
-    alloc: Global,
-    site: &mut MemSite,
-    most: &str,
-) -> io::Result<()> {
+fn open_in_pieces(page: &mut Page, alloc: Global, site: &mut MemSite, most: &str) {
     let Some(most) = size_of(most) else {
-        return say(rt, NO_ROW);
+        return page.say(NO_ROW);
     };
     match Store::open_in_pieces(alloc, site, most) {
-        Ok(store) => print_store(rt, alloc, &store),
-        Err(fault) => print_unopened(rt, fault),
+        Ok(store) => print_store(page, alloc, &store),
+        Err(fault) => print_unopened(page, fault),
     }
 }
 
 /// Opens what a crash leaves.
-fn reopen(rt: &impl Print, alloc: Global, site: &MemSite, choice: [&str; 3]) -> io::Result<()> {
+fn reopen(page: &mut Page, alloc: Global, site: &MemSite, choice: [&str; 3]) {
     match site_after_crash(site, choice) {
-        Some(mut after) => open(rt, alloc, &mut after, &[]),
-        None => say(rt, NO_ROW),
+        Some(mut after) => open(page, alloc, &mut after, &[]),
+        None => page.say(NO_ROW),
     }
 }
 
 /// Makes a store of version 1 one of version 2.
-fn migrate(rt: &impl Print, alloc: Global, site: &mut MemSite) -> io::Result<()> {
+fn migrate(page: &mut Page, alloc: Global, site: &mut MemSite) {
     match Store::migrate(alloc, site) {
-        Ok((store, commands)) => print_migrated(rt, alloc, commands, &store),
-        Err(fault) => print_unmigrated(rt, alloc, &fault),
+        Ok((store, commands)) => print_migrated(page, alloc, commands, &store),
+        Err(fault) => print_unmigrated(page, alloc, &fault),
     }
 }
 
 /// Where each of these satoshis is.
-fn print_places(rt: &impl Print, store: &Store, words: &[&str]) -> io::Result<()> {
+fn print_places(page: &mut Page, store: &Store, words: &[&str]) {
     for word in words {
         let Some(sat) = number_of(word) else {
-            return say(rt, NO_ROW);
+            return page.say(NO_ROW);
         };
-        print_place(rt, store.live().locate(sat))?;
+        print_place(page, store.live().locate(sat));
     }
-    Ok(())
 }
 
 /// Where satoshis are in the store.
-fn locate(rt: &impl Print, alloc: Global, site: &mut MemSite, words: &[&str]) -> io::Result<()> {
+fn locate(page: &mut Page, alloc: Global, site: &mut MemSite, words: &[&str]) {
     match Store::open(alloc, site) {
-        Ok(store) => print_places(rt, &store, words),
-        Err(fault) => print_unopened(rt, fault),
+        Ok(store) => print_places(page, &store, words),
+        Err(fault) => print_unopened(page, fault),
     }
 }
 
 /// Carries out a row that makes or opens a store.
-pub fn tell_store(
-    rt: &impl Print,
-    alloc: Global,
-    site: &mut MemSite,
-    row: &[&str],
-) -> io::Result<()> {
+pub fn tell_store(page: &mut Page, alloc: Global, site: &mut MemSite, row: &[&str]) {
     match row {
-        ["make", profile, depth, words @ ..] => make_by(rt, alloc, site, profile, depth, words),
-        ["open", words @ ..] => open_by(rt, alloc, site, words),
-        ["pieces", most] => open_in_pieces(rt, alloc, site, most),
-        ["reopen", moment, fill, keep] => reopen(rt, alloc, site, [moment, fill, keep]),
-        ["migrate"] => migrate(rt, alloc, site),
-        ["locate", words @ ..] => locate(rt, alloc, site, words),
-        _ => say(rt, NO_ROW),
+        ["make", profile, depth, words @ ..] => make_by(page, alloc, site, profile, depth, words),
+        ["open", words @ ..] => open_by(page, alloc, site, words),
+        ["pieces", most] => open_in_pieces(page, alloc, site, most),
+        ["reopen", moment, fill, keep] => reopen(page, alloc, site, [moment, fill, keep]),
+        ["migrate"] => migrate(page, alloc, site),
+        ["locate", words @ ..] => locate(page, alloc, site, words),
+        _ => page.say(NO_ROW),
     }
 }
