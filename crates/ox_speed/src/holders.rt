@@ -12,7 +12,7 @@ use std::alloc::Global;
 const SPENDS: u32 = 500;
 
 /// What is done.
-#[derive(Clone, Copy, PartialEq, Eq)]
+#[derive(Clone, Copy)]
 pub(crate) enum Load {
     /// Spends outputs of so many scripts, and pays others to these.
     Spend,

@@ -32,7 +32,7 @@ mod runes;
 mod stones;
 
 /// What is done.
-#[derive(Clone, Copy, PartialEq, Eq)]
+#[derive(Clone, Copy)]
 enum Task {
     Stone,
     Deal(pools::Load),
