@@ -1,11 +1,12 @@
 //! Where a change leads.
 
-use crate::print::Page;
+use crate::print::{print_hex, say};
 use crate::whole::rows_of;
 use crate::words::{NO_ROW, index_and_change_of};
 use ox_bytes::Bytes;
 use ox_plain::other_end;
 use std::alloc::Global;
+use std::io;
 
 /// The rows of the index at a change's other end, or why there are none. An index in which the
 /// change has an end is spelled, and the change.
@@ -19,15 +20,15 @@ fn rows_at_end(alloc: Global, words: &str, back: bool) -> Result<Bytes, &'static
 }
 
 /// Prints the rows of the index at the change's other end; an index and a change are spelled.
-pub fn print_lead(page: &mut Page, alloc: Global, words: &str, back: bool) {
+pub fn print_lead(rt: &impl Print, alloc: Global, words: &str, back: bool) -> io::Result<()> {
     match rows_at_end(alloc, words, back) {
-        Ok(rows) => print_rows(page, rows.as_slice()),
-        Err(why) => page.say(why),
+        Ok(rows) => print_rows(rt, rows.as_slice()),
+        Err(why) => say(rt, why),
     }
 }
 
 /// Rows, in a line.
-fn print_rows(page: &mut Page, rows: &[u8]) {
-    page.hex(rows);
-    page.say("")
+fn print_rows(rt: &impl Print, rows: &[u8]) -> io::Result<()> {
+    print_hex(rt, rows)?;
+    say(rt, "")
 }

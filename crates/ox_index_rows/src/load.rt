@@ -2,7 +2,7 @@
 
 ghost use Rattle.ox_sat.specs.Profiles.{IsProfile};
 
-use crate::print::Page;
+use crate::print::say;
 use crate::words::{NO_ROW, bytes_of, profile_in};
 use ox_index::Live;
 use ox_model::View;
@@ -10,6 +10,7 @@ use ox_rows::read_index;
 use ox_sat::Profile;
 use ox_sound::is_sound;
 use std::alloc::Global;
+use std::io;
 
 /// The index in memory that is made from these rows, if they are those of a sound index; or why
 /// there is none.
@@ -36,17 +37,19 @@ fn live_often(alloc: Global, words: &str, times: u32) -> Result<Live, &'static s
 
 /// Prints how much an index in memory has that is made so many times; a profile's word and the rows
 /// of the index are spelled.
-pub fn print_load(page: &mut Page, alloc: Global, words: &str, times: u32) {
+pub fn print_load(rt: &impl Print, alloc: Global, words: &str, times: u32) -> io::Result<()> {
     match live_often(alloc, words, times) {
-        Ok(live) => print_size(page, &live),
-        Err(why) => page.say(why),
+        Ok(live) => print_size(rt, &live),
+        Err(why) => say(rt, why),
     }
 }
 
 /// Prints how much an index in memory has.
-fn print_size(page: &mut Page, live: &Live) {
-    page.count("", live.blocks() as u128);
-    page.count(" blocks, ", live.inscriptions() as u128);
-    page.count(" inscriptions, ", live.runes() as u128);
-    page.say(" runes")
+fn print_size(rt: &impl Print, live: &Live) -> io::Result<()> {
+    println!(rt;
+        "{} blocks, {} inscriptions, {} runes",
+        live.blocks(),
+        live.inscriptions(),
+        live.runes()
+    )
 }

@@ -6,40 +6,42 @@
 //! - `name=N` and `rune=BLOCK:TX`: the number of the rune with a name or an id;
 //! - `height=N`: the hash of the block at a height.
 
-use crate::print::Page;
+use crate::print::say;
 use crate::show::{
-    print_audit, print_balance, print_block, print_found, print_index, print_next, print_numbers,
+    print_audit, print_balance, print_block, print_found, print_index, print_numbers,
     print_outpoint, print_output,
 };
 use ox_block::{OutPoint, Txid};
 use ox_envelope::read_id_text;
 use ox_index::Live;
 use ox_model::{Place, RuneId, View};
+use std::io;
 
 /// The whole index, and what each word looks up.
-pub fn dump(page: &mut Page, live: &Live, words: &str) {
-    print_index(page, live);
-    print_audit(page, live);
-    print_looks(page, live, words)
+pub fn dump(rt: &impl Print, live: &Live, words: &str) -> io::Result<()> {
+    print_index(rt, live)?;
+    print_audit(rt, live)?;
+    print_looks(rt, live, words)
 }
 
 /// What each word looks up.
-pub fn print_looks(page: &mut Page, live: &Live, words: &str) {
+pub fn print_looks(rt: &impl Print, live: &Live, words: &str) -> io::Result<()> {
     for word in words.split(' ') {
         if !word.is_empty() {
-            print_look(page, live, word);
+            print_look(rt, live, word)?;
         }
     }
+    Ok(())
 }
 
 /// What a word looks up.
-fn print_look(page: &mut Page, live: &Live, word: &str) {
+fn print_look(rt: &impl Print, live: &Live, word: &str) -> io::Result<()> {
     let (name, value) = word.split_once('=').unwrap_or((word, ""));
     match name {
-        "at" => look_at(page, live, outpoint_of(value)),
-        "sat" => look_for(page, live, value.parse().ok()),
-        "height" => print_block(page, live, value.parse().unwrap_or(u32::MAX)),
-        _ => print_number_of(page, word, number_of(live, name, value)),
+        "at" => look_at(rt, live, outpoint_of(value)),
+        "sat" => look_for(rt, live, value.parse().ok()),
+        "height" => print_block(rt, live, value.parse().unwrap_or(u32::MAX)),
+        _ => print_number_of(rt, word, number_of(live, name, value)),
     }
 }
 
@@ -75,55 +77,56 @@ fn number_of(live: &Live, name: &str, value: &str) -> Option<u32> {
 }
 
 /// A word, and the number that it leads to.
-fn print_number_of(page: &mut Page, word: &str, number: Option<u32>) {
-    page.put(word);
-    print_found(page, number);
-    page.say("")
+fn print_number_of(rt: &impl Print, word: &str, number: Option<u32>) -> io::Result<()> {
+    print!(rt; "{word}")?;
+    print_found(rt, number)?;
+    say(rt, "")
 }
 
 /// The output at an outpoint, and its runes.
-fn look_at(page: &mut Page, live: &Live, at: Option<OutPoint>) {
+fn look_at(rt: &impl Print, live: &Live, at: Option<OutPoint>) -> io::Result<()> {
     let Some(at) = at else {
-        return page.say("no outpoint");
+        return say(rt, "no outpoint");
     };
-    page.put("at ");
-    print_outpoint(page, &at);
-    print_held(page, live, &at);
-    page.say("")
-}
-
-/// What the output at an outpoint holds, if there is one.
-fn print_held(page: &mut Page, live: &Live, at: &OutPoint) {
-    match live.output(at) {
-        Some(row) => print_output(page, row),
-        None => page.put(" none"),
+    print!(rt; "at ")?;
+    print_outpoint(rt, &at)?;
+    match live.output(&at) {
+        Some(row) => print_output(rt, row)?,
+        None => print!(rt; " none")?,
     }
-    print_balance(page, live.balance(at))
+    print_balance(rt, live.balance(&at))?;
+    say(rt, "")
 }
 
 /// Where a satoshi is, and which inscriptions it and the next one up bear.
-fn look_for(page: &mut Page, live: &Live, sat: Option<u64>) {
+fn look_for(rt: &impl Print, live: &Live, sat: Option<u64>) -> io::Result<()> {
     let Some(sat) = sat else {
-        return page.say("no satoshi");
+        return say(rt, "no satoshi");
     };
-    page.count("satoshi ", sat as u128);
-    print_place(page, live.locate(sat));
-    print_numbers(page, ":", live.on(sat));
-    print_next(page, live, sat)
+    print!(rt; "satoshi {sat} ")?;
+    print_place(rt, live.locate(sat))?;
+    print_numbers(rt, ":", live.on(sat))?;
+    print_next(rt, live, sat)
 }
 
-/// A place, with a space in front.
-fn print_place(page: &mut Page, place: Option<Place>) {
+/// A place.
+fn print_place(rt: &impl Print, place: Option<Place>) -> io::Result<()> {
     match place {
         Some(Place::Out { outpoint, offset }) => {
-            page.count(" at ", offset as u128);
-            page.put(" of ");
-            print_outpoint(page, &outpoint)
+            print!(rt; "at {offset} of ")?;
+            print_outpoint(rt, &outpoint)
         }
-        Some(Place::Lost { offset }) => {
-            page.count(" at ", offset as u128);
-            page.put(" of the lost ones")
-        }
-        None => page.put(" nowhere"),
+        Some(Place::Lost { offset }) => print!(rt; "at {offset} of the lost ones"),
+        None => print!(rt; "nowhere"),
     }
+}
+
+/// The least satoshi from a number up that bears an inscription, and those on it.
+fn print_next(rt: &impl Print, live: &Live, sat: u64) -> io::Result<()> {
+    let Some((next, numbers)) = live.next_on(sat) else {
+        return say(rt, ", next none");
+    };
+    print!(rt; ", next {next}")?;
+    print_numbers(rt, ":", numbers)?;
+    say(rt, "")
 }

@@ -81,9 +81,9 @@ use crate::lead::print_lead;
 use crate::load::print_load;
 use crate::look::{dump, print_looks};
 use crate::plain::dump_plain;
-use crate::print::Page;
+use crate::print::say;
 use crate::read::{print_change_again, print_fronts, print_index_again};
-use crate::requests::{Tally, print_answer, reply_often};
+use crate::requests::{print_answer, reply_often};
 use crate::sound::{print_keeps, print_sound};
 use crate::words::{bytes_of, profile_in};
 use ox_index::{Chain, Live, Why};
@@ -125,10 +125,13 @@ fn new_chain(alloc: Global, words: &str) -> Option<Index> {
 }
 
 /// Begins anew with an index of no block.
-fn begin(page: &mut Page, index: &mut Index, new: Option<Index>) {
+fn begin(rt: &impl Print, index: &mut Index, new: Option<Index>) -> io::Result<()> {
     match new {
-        Some(new) => *index = new,
-        None => page.say("no memory"),
+        Some(new) => {
+            *index = new;
+            Ok(())
+        }
+        None => say(rt, "no memory"),
     }
 }
 
@@ -141,143 +144,161 @@ fn connect(index: &mut Index, block: &[u8]) -> Option<Why> {
 }
 
 /// Connects the block that is spelled so, and says how that ended.
-fn connect_row(page: &mut Page, alloc: Global, index: &mut Index, words: &str) {
+fn connect_row(rt: &impl Print, alloc: Global, index: &mut Index, words: &str) -> io::Result<()> {
     let Some(block) = bytes_of(alloc, words) else {
-        return page.say("no memory");
+        return say(rt, "no memory");
     };
     let fault = connect(index, &block);
-    print_end(page, alloc, live_in(index), fault)
+    print_end(rt, alloc, live_in(index), fault)
 }
 
 /// Takes a chain's newest block back, and says how that ended.
-fn disconnect_row(page: &mut Page, alloc: Global, index: &mut Index) {
+fn disconnect_row(rt: &impl Print, alloc: Global, index: &mut Index) -> io::Result<()> {
     let Index::Chain(chain) = index else {
-        return page.say("no chain");
+        return say(rt, "no chain");
     };
     let fault = chain.disconnect().err();
-    print_end(page, alloc, chain.live(), fault)
+    print_end(rt, alloc, chain.live(), fault)
 }
 
 /// Carries out a chain's command that is spelled so, and cancels it.
-fn cancel_row(page: &mut Page, alloc: Global, index: &mut Index, words: &str) {
+fn cancel_row(rt: &impl Print, alloc: Global, index: &mut Index, words: &str) -> io::Result<()> {
     match index {
-        Index::Chain(chain) => carry_out_and_cancel(page, alloc, chain, words),
-        Index::Live(_) => page.say("no chain"),
+        Index::Chain(chain) => carry_out_and_cancel(rt, alloc, chain, words),
+        Index::Live(_) => say(rt, "no chain"),
     }
 }
 
 /// Leads a live index both ways by the block that is spelled first.
-fn both_row(page: &mut Page, alloc: Global, index: &mut Index, rest: &str) {
+fn both_row(rt: &impl Print, alloc: Global, index: &mut Index, rest: &str) -> io::Result<()> {
     let Index::Live(live) = index else {
-        return page.say("no live index");
+        return say(rt, "no live index");
     };
     let (digits, words) = rest.split_once(' ').unwrap_or((rest, ""));
     let Some(block) = bytes_of(alloc, digits) else {
-        return page.say("no memory");
+        return say(rt, "no memory");
     };
-    lead_both_ways(page, alloc, live, &block, words)
+    lead_both_ways(rt, alloc, live, &block, words)
 }
 
 /// How many blocks a chain keeps.
-fn print_kept(page: &mut Page, index: &Index) {
+fn print_kept(rt: &impl Print, index: &Index) -> io::Result<()> {
     let Index::Chain(chain) = index else {
-        return;
+        return Ok(());
     };
     let about = chain.about();
-    page.count("kept ", about.kept as u128);
-    page.count(" of ", about.depth as u128);
-    page.count(", ", chain.changes().len() as u128);
-    page.say(" changes")
+    println!(rt;
+        "kept {} of {}, {} changes",
+        about.kept,
+        about.depth,
+        chain.changes().len()
+    )
 }
 
 /// Dumps an index.
-fn dump_row(page: &mut Page, index: &Index, words: &str) {
-    print_kept(page, index);
-    dump(page, live_in(index), words)
+fn dump_row(rt: &impl Print, index: &Index, words: &str) -> io::Result<()> {
+    print_kept(rt, index)?;
+    dump(rt, live_in(index), words)
 }
 
 /// Prints a chain's reply to a request.
-fn request_row(page: &mut Page, alloc: Global, routes: &Routes, index: &Index, row: &str) {
+fn request_row(
+    rt: &impl Print,
+    alloc: Global,
+    routes: &Routes,
+    index: &Index,
+    row: &str,
+) -> io::Result<()> {
     match index {
-        Index::Chain(chain) => print_answer(page, alloc, routes, chain, row),
-        Index::Live(_) => page.say("no row, or no chain"),
+        Index::Chain(chain) => print_answer(rt, alloc, routes, chain, row),
+        Index::Live(_) => say(rt, "no row, or no chain"),
     }
 }
 
 /// Prints what the bytes of a row read as, or a chain's reply. What is timed is done so many times.
 fn read_or_reply(
-    page: &mut Page,
+    rt: &impl Print,
     alloc: Global,
     routes: &Routes,
     index: &Index,
     row: &str,
     times: u32,
-) {
+) -> io::Result<()> {
     let (word, rest) = row.split_once(' ').unwrap_or((row, ""));
     match word {
-        "index" => print_index_again(page, alloc, rest, Times::of_reads(times)),
-        "spell" => print_index_again(page, alloc, rest, Times::of_writes(times)),
-        "change" => print_change_again(page, alloc, rest),
-        "fronts" => print_fronts(page, alloc, rest),
-        "sound" => print_sound(page, alloc, rest, times),
-        "load" => print_load(page, alloc, rest, times),
-        "keeps" => print_keeps(page, alloc, rest),
-        "on" => print_lead(page, alloc, rest, false),
-        "back" => print_lead(page, alloc, rest, true),
-        _ => request_row(page, alloc, routes, index, row),
+        "index" => print_index_again(rt, alloc, rest, Times::of_reads(times)),
+        "spell" => print_index_again(rt, alloc, rest, Times::of_writes(times)),
+        "change" => print_change_again(rt, alloc, rest),
+        "fronts" => print_fronts(rt, alloc, rest),
+        "sound" => print_sound(rt, alloc, rest, times),
+        "load" => print_load(rt, alloc, rest, times),
+        "keeps" => print_keeps(rt, alloc, rest),
+        "on" => print_lead(rt, alloc, rest, false),
+        "back" => print_lead(rt, alloc, rest, true),
+        _ => request_row(rt, alloc, routes, index, row),
     }
 }
 
 /// Does what a row says.
-fn run(page: &mut Page, alloc: Global, routes: &Routes, index: &mut Index, row: &str, times: u32) {
-    let (word, rest) = row.split_once(' ').unwrap_or((row, ""));
-    match word {
-        "#" => page.say(row),
-        "live" => begin(page, index, new_live(alloc, rest)),
-        "chain" => begin(page, index, new_chain(alloc, rest)),
-        "block" => connect_row(page, alloc, index, rest),
-        "both" => both_row(page, alloc, index, rest),
-        "disconnect" => disconnect_row(page, alloc, index),
-        "cancel" => cancel_row(page, alloc, index, rest),
-        "dump" => dump_row(page, index, rest),
-        "plain" => dump_plain(page, alloc, live_in(index), rest),
-        "look" => print_looks(page, live_in(index), rest),
-        _ => read_or_reply(page, alloc, routes, index, row, times),
-    }
-}
-
-/// Does what a row says; nothing of an empty one.
-fn run_row(
-    page: &mut Page,
+fn run(
+    rt: &impl Print,
     alloc: Global,
     routes: &Routes,
     index: &mut Index,
     row: &str,
     times: u32,
-) {
-    if !row.is_empty() {
-        run(page, alloc, routes, index, row, times);
+) -> io::Result<()> {
+    let (word, rest) = row.split_once(' ').unwrap_or((row, ""));
+    match word {
+        "#" => say(rt, row),
+        "live" => begin(rt, index, new_live(alloc, rest)),
+        "chain" => begin(rt, index, new_chain(alloc, rest)),
+        "block" => connect_row(rt, alloc, index, rest),
+        "both" => both_row(rt, alloc, index, rest),
+        "disconnect" => disconnect_row(rt, alloc, index),
+        "cancel" => cancel_row(rt, alloc, index, rest),
+        "dump" => dump_row(rt, index, rest),
+        "plain" => dump_plain(rt, alloc, live_in(index), rest),
+        "look" => print_looks(rt, live_in(index), rest),
+        _ => read_or_reply(rt, alloc, routes, index, row, times),
     }
 }
 
-/// Prints how many replies there were, and how many bytes their bodies had.
-fn print_tally(page: &mut Page, tally: Tally) {
-    page.count("", tally.replies as u128);
-    page.count(" replies of ", tally.bytes as u128);
-    page.say(" bytes")
+/// Does what each row says.
+fn run_all(
+    rt: &impl Print,
+    alloc: Global,
+    routes: &Routes,
+    index: &mut Index,
+    text: &str,
+    times: u32,
+) -> io::Result<()> {
+    for row in text.split('\n') {
+        if !row.is_empty() {
+            run(rt, alloc, routes, index, row, times)?;
+        }
+    }
+    Ok(())
 }
 
 /// Replies to each GET among a chain's rows, so many times more, and tells how much that was.
-fn repeat(page: &mut Page, alloc: Global, routes: &Routes, index: &Index, text: &str, times: u32) {
+fn repeat(
+    rt: &impl Print,
+    alloc: Global,
+    routes: &Routes,
+    index: &Index,
+    text: &str,
+    times: u32,
+) -> io::Result<()> {
     let Index::Chain(chain) = index else {
-        return;
+        return Ok(());
     };
     if times == 0 {
-        return;
+        return Ok(());
     }
     match reply_often(alloc, routes, chain, text, times) {
-        Some(tally) => print_tally(page, tally),
-        None => page.say("no memory"),
+        Some(tally) => println!(rt; "{} replies of {} bytes", tally.replies, tally.bytes),
+        None => say(rt, "no memory"),
     }
 }
 
@@ -289,60 +310,26 @@ fn times_of(rt: &HostRuntime) -> io::Result<u32> {
     }
 }
 
-/// Does what each row says, and prints what came of it.
-fn run_all(
-    rt: &impl Print,
-    page: &mut Page,
-    alloc: Global,
-    routes: &Routes,
-    index: &mut Index,
-    text: &str,
-    times: u32,
-) -> io::Result<()> {
-    for row in text.split('\n') {
-        page.clear();
-        run_row(page, alloc, routes, index, row, times);
-        print!(rt; "{}", page.as_str())?;
-    }
-    page.clear();
-    repeat(page, alloc, routes, index, text, times.saturating_sub(1));
-    print!(rt; "{}", page.as_str())
-}
-
 /// Does what each row of a text says, from an index of no block on. What is timed is done so many
 /// times.
 fn run_by(
     rt: &impl Print,
-    page: &mut Page,
     alloc: Global,
     routes: &Routes,
     text: &str,
     times: u32,
 ) -> io::Result<()> {
-    match new_live(alloc, "lab") {
-        Some(mut index) => run_all(rt, page, alloc, routes, &mut index, text, times),
-        None => Err(ErrorKind::OutOfMemory.into()),
-    }
+    let Some(mut index) = new_live(alloc, "lab") else {
+        return Err(ErrorKind::OutOfMemory.into());
+    };
+    run_all(rt, alloc, routes, &mut index, text, times)?;
+    repeat(rt, alloc, routes, &index, text, times.saturating_sub(1))
 }
 
 /// The same with the routes of all requests.
-fn run_routed(
-    rt: &impl Print,
-    page: &mut Page,
-    alloc: Global,
-    text: &str,
-    times: u32,
-) -> io::Result<()> {
-    match Routes::new(alloc) {
-        Ok(routes) => run_by(rt, page, alloc, &routes, text, times),
-        Err(_) => Err(ErrorKind::OutOfMemory.into()),
-    }
-}
-
-/// The same with a page for what is printed.
 fn run_times(rt: &impl Print, alloc: Global, text: &str, times: u32) -> io::Result<()> {
-    match Page::new(alloc) {
-        Ok(mut page) => run_routed(rt, &mut page, alloc, text, times),
+    match Routes::new(alloc) {
+        Ok(routes) => run_by(rt, alloc, &routes, text, times),
         Err(_) => Err(ErrorKind::OutOfMemory.into()),
     }
 }

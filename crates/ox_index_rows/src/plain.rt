@@ -6,7 +6,7 @@ ghost use Rattle.ox_plain.specs.Plain.{index_in as stands};
 ghost use Rattle.ox_rows.specs.RowFits.{KeepsIndex};
 
 use crate::look::dump;
-use crate::print::Page;
+use crate::print::say;
 use ox_bytes::Memory;
 use ox_checkpoint::sound_data_can_be_put;
 use ox_index::Live;
@@ -14,12 +14,13 @@ use ox_model::View;
 use ox_plain::Index;
 use ox_rows::{read_index, write_index};
 use std::alloc::Global;
+use std::io;
 
 /// Dumps the index that is made from the rows of an index.
-pub fn dump_plain(page: &mut Page, alloc: Global, live: &Live, words: &str) {
+pub fn dump_plain(rt: &impl Print, alloc: Global, live: &Live, words: &str) -> io::Result<()> {
     match made_again(alloc, live) {
-        Ok(again) => dump(page, &again, words),
-        Err(_) => page.say("no memory"),
+        Ok(again) => dump(rt, &again, words),
+        Err(_) => say(rt, "no memory"),
     }
 }
 

@@ -1,58 +1,59 @@
 //! What rows read as, in a line.
 
 use crate::again::{Again, Times, change_again, index_again};
-use crate::print::Page;
+use crate::print::{print_hex, say};
 use crate::words::{NO_ROW, bytes_of};
 use ox_rows::{RowsFault, read_change, read_index};
 use std::alloc::Global;
+use std::io;
 
 /// More bytes than these are told by their number alone.
 const MOST_SHOWN: usize = 1_000_000;
 
 /// How many bytes were read, and how that is spelled.
-fn print_spelled(page: &mut Page, bytes: &[u8], again: &Again) {
+fn print_spelled(rt: &impl Print, bytes: &[u8], again: &Again) -> io::Result<()> {
     let spelled = again.spelled.as_slice();
-    page.count("", again.taken as u128);
     if spelled.len() > MOST_SHOWN {
-        page.count(" bytes spelled by ", spelled.len() as u128);
-        page.put(", as they are: ");
-        return page.say(if bytes.starts_with(spelled) {
-            "true"
-        } else {
-            "false"
-        });
+        return println!(rt;
+            "{} bytes spelled by {}, as they are: {}",
+            again.taken,
+            spelled.len(),
+            bytes.starts_with(spelled)
+        );
     }
-    page.put(" bytes ");
-    page.hex(spelled);
-    page.say("")
+    print!(rt; "{} bytes ", again.taken)?;
+    print_hex(rt, spelled)?;
+    say(rt, "")
 }
 
 /// What was read and spelled, or why not.
-fn print_again(page: &mut Page, bytes: &[u8], again: Result<Again, RowsFault>) {
+fn print_again(rt: &impl Print, bytes: &[u8], again: Result<Again, RowsFault>) -> io::Result<()> {
     match again {
-        Ok(again) => print_spelled(page, bytes, &again),
-        Err(RowsFault::Memory) => page.say("no memory"),
-        Err(RowsFault::NotRows { at }) => {
-            page.count("not rows ", at as u128);
-            page.say("")
-        }
+        Ok(again) => print_spelled(rt, bytes, &again),
+        Err(RowsFault::Memory) => say(rt, "no memory"),
+        Err(RowsFault::NotRows { at }) => println!(rt; "not rows {at}"),
     }
 }
 
 /// Reads an index and spells it, so many times each, and prints what came of it.
-pub fn print_index_again(page: &mut Page, alloc: Global, word: &str, times: Times) {
+pub fn print_index_again(
+    rt: &impl Print,
+    alloc: Global,
+    word: &str,
+    times: Times,
+) -> io::Result<()> {
     let Some(bytes) = bytes_of(alloc, word) else {
-        return page.say(NO_ROW);
+        return say(rt, NO_ROW);
     };
-    print_again(page, &bytes, index_again(alloc, &bytes, times))
+    print_again(rt, &bytes, index_again(alloc, &bytes, times))
 }
 
 /// Reads a change and spells it, and prints what came of it.
-pub fn print_change_again(page: &mut Page, alloc: Global, word: &str) {
+pub fn print_change_again(rt: &impl Print, alloc: Global, word: &str) -> io::Result<()> {
     let Some(bytes) = bytes_of(alloc, word) else {
-        return page.say(NO_ROW);
+        return say(rt, NO_ROW);
     };
-    print_again(page, &bytes, change_again(alloc, &bytes))
+    print_again(rt, &bytes, change_again(alloc, &bytes))
 }
 
 /// What rows are of.
@@ -86,27 +87,27 @@ fn fault_in(alloc: Global, kind: Kind, bytes: &[u8]) -> Option<RowsFault> {
 }
 
 /// The place of a fault.
-fn print_place(page: &mut Page, fault: Option<RowsFault>) {
+fn print_place(rt: &impl Print, fault: Option<RowsFault>) -> io::Result<()> {
     match fault {
-        Some(RowsFault::NotRows { at }) => page.count(" ", at as u128),
-        Some(RowsFault::Memory) => page.put(" memory"),
-        None => page.put(" none"),
+        Some(RowsFault::NotRows { at }) => print!(rt; " {at}"),
+        Some(RowsFault::Memory) => print!(rt; " memory"),
+        None => print!(rt; " none"),
     }
 }
 
 /// The place of the fault of each front of the bytes, shorter than they are.
-fn print_places(page: &mut Page, alloc: Global, kind: Kind, bytes: &[u8]) {
+fn print_places(rt: &impl Print, alloc: Global, kind: Kind, bytes: &[u8]) -> io::Result<()> {
     for len in 0..bytes.len() {
         let (front, _) = bytes.split_at(len);
-        print_place(page, fault_in(alloc, kind, front));
+        print_place(rt, fault_in(alloc, kind, front))?;
     }
-    page.say("")
+    say(rt, "")
 }
 
 /// Prints the place of the fault of each front of the bytes that are spelled behind their kind.
-pub fn print_fronts(page: &mut Page, alloc: Global, words: &str) {
+pub fn print_fronts(rt: &impl Print, alloc: Global, words: &str) -> io::Result<()> {
     match kind_and_bytes_of(alloc, words) {
-        Some((kind, bytes)) => print_places(page, alloc, kind, &bytes),
-        None => page.say(NO_ROW),
+        Some((kind, bytes)) => print_places(rt, alloc, kind, &bytes),
+        None => say(rt, NO_ROW),
     }
 }

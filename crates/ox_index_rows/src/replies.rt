@@ -1,7 +1,8 @@
 //! Replies, in lines.
 
-use crate::print::Page;
+use crate::print::{print_hex, say};
 use ox_http::Reply;
+use std::io;
 
 /// A body of more bytes is shown by its length and a checksum.
 const MOST_SHOWN: usize = 20_000;
@@ -17,50 +18,44 @@ fn checksum_of(bytes: &[u8]) -> u64 {
 
 /// A body as it stands where it is text in one line, else in hex digits, and by its checksum where
 /// it is long.
-fn print_body(page: &mut Page, body: &[u8]) {
+fn print_body(rt: &impl Print, body: &[u8]) -> io::Result<()> {
     if body.len() > MOST_SHOWN {
-        page.count(" (", body.len() as u128);
-        page.count(" bytes, checksum ", checksum_of(body) as u128);
-        return page.say(")");
+        return print!(rt; " ({} bytes, checksum {})", body.len(), checksum_of(body));
     }
     match str::from_utf8(body) {
-        Ok(text) if !body.contains(&b'\n') => print_text(page, text),
-        _ => print_digits(page, body),
+        Ok(text) if !body.contains(&b'\n') => print!(rt; " {text}"),
+        _ => print_digits(rt, body),
     }
-}
-
-/// A body as it stands.
-fn print_text(page: &mut Page, text: &str) {
-    page.put(" ");
-    page.say(text)
 }
 
 /// A body in hex digits.
-fn print_digits(page: &mut Page, body: &[u8]) {
-    page.put(" (hex) ");
-    page.hex(body);
-    page.say("")
+fn print_digits(rt: &impl Print, body: &[u8]) -> io::Result<()> {
+    print!(rt; " (hex) ")?;
+    print_hex(rt, body)
 }
 
 /// A part of a reply's head.
-fn print_part(page: &mut Page, bytes: &[u8]) {
-    page.put(" <");
-    page.put(str::from_utf8(bytes).unwrap_or("no text"));
-    page.put(">")
+fn print_part(rt: &impl Print, bytes: &[u8]) -> io::Result<()> {
+    print!(rt; " <{}>", str::from_utf8(bytes).unwrap_or("no text"))
 }
 
 /// A reply's head.
-fn print_head(page: &mut Page, reply: &Reply) {
-    page.count("", reply.status as u128);
-    page.put(if reply.close { " close" } else { "" });
-    print_part(page, reply.kind.as_slice());
-    if let Some(encoding) = &reply.encoding {
-        print_part(page, encoding.as_slice());
+fn print_head(rt: &impl Print, reply: &Reply) -> io::Result<()> {
+    print!(rt;
+        "{}{}",
+        reply.status,
+        if reply.close { " close" } else { "" }
+    )?;
+    print_part(rt, reply.kind.as_slice())?;
+    match &reply.encoding {
+        Some(encoding) => print_part(rt, encoding.as_slice()),
+        None => Ok(()),
     }
 }
 
 /// A reply in a line.
-pub fn print_reply(page: &mut Page, reply: &Reply) {
-    print_head(page, reply);
-    print_body(page, reply.body.as_slice())
+pub fn print_reply(rt: &impl Print, reply: &Reply) -> io::Result<()> {
+    print_head(rt, reply)?;
+    print_body(rt, reply.body.as_slice())?;
+    say(rt, "")
 }

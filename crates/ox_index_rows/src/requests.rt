@@ -1,6 +1,6 @@
 //! Requests of a chain, as rows say them, and their replies.
 
-use crate::print::Page;
+use crate::print::say;
 use crate::replies::print_reply;
 use crate::words::NO_ROW;
 use ox_bytes::Bytes;
@@ -9,6 +9,7 @@ use ox_index::Chain;
 use ox_query::{answer, answer_by};
 use ox_routes::Routes;
 use std::alloc::Global;
+use std::io;
 
 /// The method that a word names.
 fn method_of(word: &str) -> Option<Method> {
@@ -84,13 +85,19 @@ fn reply_to(alloc: Global, routes: &Routes, chain: &Chain, request: &Request) ->
 }
 
 /// Prints the reply to a row's request.
-pub fn print_answer(page: &mut Page, alloc: Global, routes: &Routes, chain: &Chain, row: &str) {
+pub fn print_answer(
+    rt: &impl Print,
+    alloc: Global,
+    routes: &Routes,
+    chain: &Chain,
+    row: &str,
+) -> io::Result<()> {
     let Some(request) = request_in(alloc, row) else {
-        return page.say(NO_ROW);
+        return say(rt, NO_ROW);
     };
     match reply_to(alloc, routes, chain, &request) {
-        Some(reply) => print_reply(page, &reply),
-        None => page.say("another reply by routes that are lent, or no memory"),
+        Some(reply) => print_reply(rt, &reply),
+        None => say(rt, "another reply by routes that are lent, or no memory"),
     }
 }
 

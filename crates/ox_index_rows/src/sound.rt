@@ -2,7 +2,7 @@
 
 ghost use Rattle.ox_sat.specs.Profiles.{IsProfile};
 
-use crate::print::Page;
+use crate::print::say;
 use crate::words::{NO_ROW, index_and_change_of, index_of, profile_in};
 use ox_bytes::Memory;
 use ox_model::Change;
@@ -10,6 +10,7 @@ use ox_plain::{Index, other_end};
 use ox_sat::Profile;
 use ox_sound::{is_sound, keeps_sound};
 use std::alloc::Global;
+use std::io;
 
 /// What is said of an index.
 fn word_of(sound: bool) -> &'static str {
@@ -35,10 +36,10 @@ fn test_spelled(alloc: Global, words: &str, times: u32) -> Option<bool> {
 
 /// Prints whether an index is sound, which is tested so many times; a profile's word and the index
 /// are spelled.
-pub fn print_sound(page: &mut Page, alloc: Global, words: &str, times: u32) {
+pub fn print_sound(rt: &impl Print, alloc: Global, words: &str, times: u32) -> io::Result<()> {
     match test_spelled(alloc, words, times) {
-        Some(sound) => page.say(word_of(sound)),
-        None => page.say(NO_ROW),
+        Some(sound) => say(rt, word_of(sound)),
+        None => say(rt, NO_ROW),
     }
 }
 
@@ -87,15 +88,15 @@ fn judge_spelled(alloc: Global, words: &str) -> Result<Said, &'static str> {
 
 /// Prints what is said of a change; a profile's word, the index before it and the change are
 /// spelled.
-pub fn print_keeps(page: &mut Page, alloc: Global, words: &str) {
+pub fn print_keeps(rt: &impl Print, alloc: Global, words: &str) -> io::Result<()> {
     match judge_spelled(alloc, words) {
-        Ok(said) => print_said(page, said),
-        Err(why) => page.say(why),
+        Ok(said) => print_said(rt, said),
+        Err(why) => say(rt, why),
     }
 }
 
 /// Prints what is said of a change.
-fn print_said(page: &mut Page, said: Said) {
-    page.put(if said.kept { "kept, " } else { "not kept, " });
-    page.say(word_of(said.sound))
+fn print_said(rt: &impl Print, said: Said) -> io::Result<()> {
+    let kept = if said.kept { "kept" } else { "not kept" };
+    println!(rt; "{kept}, {}", word_of(said.sound))
 }

@@ -51,36 +51,22 @@ fn long_scripts() -> ([u8; 42], [u8; 43], [u8; 43], [u8; 44]) {
     ([7; 42], [7; 43], other, [7; 44])
 }
 
-/// The same, and an output of a script that came.
-fn with(rt: &impl Abort, alloc: Global, holders: Holders, number: u32, script: &[u8]) -> Holders {
-    let came = [row_at(rt, alloc, number, script)];
-    holders.step(&[], &came).expect(rt, "memory")
-}
-
-/// The same, but for an output of a script that is gone.
-fn without(
-    rt: &impl Abort,
-    alloc: Global,
-    holders: Holders,
-    number: u32,
-    script: &[u8],
-) -> Holders {
-    let gone = [row_at(rt, alloc, number, script)];
-    holders.step(&gone, &[]).expect(rt, "memory")
-}
-
 #[test]
 fn scripts_of_43_bytes_are_told_apart(rt: HostRuntime) {
-    let alloc = rt.alloc();
     let (short, long, other, longer) = long_scripts();
-    let holders = with(&rt, alloc, Holders::new(alloc), 1, &short);
-    let holders = with(&rt, alloc, holders, 2, &long);
-    let holders = with(&rt, alloc, holders, 3, &other);
+    let gone = [row_at(&rt, rt.alloc(), 2, &long)];
+    let holders = Holders::new(rt.alloc())
+        .step(&[], &[row_at(&rt, rt.alloc(), 1, &short)])
+        .expect(&rt, "memory")
+        .step(&[], &gone)
+        .expect(&rt, "memory")
+        .step(&[], &[row_at(&rt, rt.alloc(), 3, &other)])
+        .expect(&rt, "memory");
     assert!(rt; has_one(&rt, &holders, &short, 1));
     assert!(rt; has_one(&rt, &holders, &long, 2));
     assert!(rt; has_one(&rt, &holders, &other, 3));
     assert!(rt; has_none(&rt, &holders, &longer));
-    let holders = without(&rt, alloc, holders, 2, &long);
+    let holders = holders.step(&gone, &[]).expect(&rt, "memory");
     assert!(rt; has_one(&rt, &holders, &short, 1));
     assert!(rt; has_none(&rt, &holders, &long));
     assert!(rt; has_one(&rt, &holders, &other, 3));

@@ -3,13 +3,13 @@
 ghost use Rattle.std.specs.Prelude.{◌≤◌, length, IfSome};
 ghost use Rattle.ox_run_rows.specs.Live.{IsLive};
 
-use crate::page::Page;
-use crate::say::{print_heard, print_line, print_shown, print_took};
+use crate::say::{print_heard, print_line, print_shown, print_took, say};
 use crate::words::{NO_ROW, bytes_of, file_of, number_of};
 use ox_feed::Lines;
 use ox_memsite::MemSite;
 use ox_outside::{Doorway, Failed, Heard, Site, Which};
 use std::alloc::Global;
+use std::io;
 
 /// A room of so many bytes, each 0.
 fn room_of(alloc: Global, word: &str) -> Option<Vec<u8>>
@@ -23,14 +23,15 @@ fn room_of(alloc: Global, word: &str) -> Option<Vec<u8>>
 }
 
 /// Hears channel 0 with rooms of these sizes.
-pub fn hear(page: &mut Page, alloc: Global, site: &mut MemSite, rooms: &[&str]) {
+pub fn hear(rt: &impl Print, alloc: Global, site: &mut MemSite, rooms: &[&str]) -> io::Result<()> {
     for size in rooms {
         let Some(mut room) = room_of(alloc, *size) else {
-            return page.say(NO_ROW);
+            return say(rt, NO_ROW);
         };
         let heard = site.hear(0, &mut room);
-        print_heard(page, heard, &room);
+        print_heard(rt, heard, &room)?;
     }
+    Ok(())
 }
 
 /// Hears a link.
@@ -43,17 +44,24 @@ fn hear_link(site: &mut MemSite, link: u32, room: &mut [u8]) -> Result<Heard, Fa
 }
 
 /// Hears a link with rooms of these sizes.
-fn hear_all(page: &mut Page, alloc: Global, site: &mut MemSite, link: u32, rooms: &[&str])
+fn hear_all(
+    rt: &impl Print,
+    alloc: Global,
+    site: &mut MemSite,
+    link: u32,
+    rooms: &[&str],
+) -> io::Result<()>
     requires live { IsLive link site.old }
     ensures live { IsLive link site.new }
 {
     for size in rooms {
         let Some(mut room) = room_of(alloc, *size) else {
-            return page.say(NO_ROW);
+            return say(rt, NO_ROW);
         };
         let heard = hear_link(site, link, &mut room);
-        print_heard(page, heard, &room);
+        print_heard(rt, heard, &room)?;
     }
+    Ok(())
 }
 
 /// Gives a link up and shuts it.
@@ -66,26 +74,33 @@ fn end_link(site: &mut MemSite, link: u32)
 
 /// Takes the link that waits at a door, hears it with rooms of these sizes, gives it up and shuts
 /// it.
-pub fn visit(page: &mut Page, alloc: Global, site: &mut MemSite, door: Doorway, rooms: &[&str]) {
+pub fn visit(
+    rt: &impl Print,
+    alloc: Global,
+    site: &mut MemSite,
+    door: Doorway,
+    rooms: &[&str],
+) -> io::Result<()> {
     match Site::door(site, door) {
         Ok(Some(link)) => {
-            hear_all(page, alloc, site, link, rooms);
+            let heard = hear_all(rt, alloc, site, link, rooms);
             end_link(site, link);
-            page.count_line("link ", link as u64)
+            heard?;
+            println!(rt; "link {link}")
         }
-        Ok(None) => page.say("nobody"),
-        Err(Failed) => page.say("failed"),
+        Ok(None) => say(rt, "nobody"),
+        Err(Failed) => say(rt, "failed"),
     }
 }
 
 /// Shows bytes on channel 0, and prints the answer and what was shown there so far.
-pub fn show(page: &mut Page, site: &mut MemSite, bytes: &[u8]) {
+pub fn show(rt: &impl Print, site: &mut MemSite, bytes: &[u8]) -> io::Result<()> {
     if bytes.is_empty() {
-        return page.say("nothing to show");
+        return say(rt, "nothing to show");
     }
     let took = site.show(0, bytes);
-    print_took(page, took);
-    print_shown(page, site, 0)
+    print_took(rt, took)?;
+    print_shown(rt, site, 0)
 }
 
 /// Writes bytes into a file at a place that it has. `None` where it has none, or the call fails.
@@ -104,13 +119,19 @@ pub fn overwrite(alloc: Global, site: &mut MemSite, file: &str, at: &str, hex: &
 }
 
 /// Reads so many lines of channel 0, and at its end no more.
-pub fn read_lines(page: &mut Page, alloc: Global, site: &mut MemSite, count: &str) {
+pub fn read_lines(
+    rt: &impl Print,
+    alloc: Global,
+    site: &mut MemSite,
+    count: &str,
+) -> io::Result<()> {
     let Some(count) = number_of(count) else {
-        return page.say(NO_ROW);
+        return say(rt, NO_ROW);
     };
     let mut lines = Lines::new(alloc);
     for _ in 0..count {
         let line = lines.next(site);
-        print_line(page, alloc, line);
+        print_line(rt, alloc, line)?;
     }
+    Ok(())
 }

@@ -1,15 +1,15 @@
 //! Commands that are carried out on one store.
 
-ghost use Rattle.std.specs.Prelude.{◌≡◌, IsTrue, IfSome};
+ghost use Rattle.std.specs.Prelude.{◌≡◌, IsTrue, IfOk, IfSome};
 ghost use Rattle.ox_gated.specs.Tail.{Holds};
 
-use crate::page::Page;
 use crate::say_store::{print_outcome, print_store};
 use ox_feed::Command;
 use ox_model::{Change, Refusal};
 use ox_outside::Site;
 use ox_store::{Kept, Moving, Ready, Store, Why};
 use std::alloc::Global;
+use std::io;
 
 /// What a command changes, and the newest block after it.
 #[derive(Clone, Copy)]
@@ -117,39 +117,39 @@ fn carry_out<S: Site>(store: Store, command: &Command, site: &mut S) -> Turn
 
 /// Carries a command out, and prints what came of it. The store after it; none where a call failed.
 fn carry_out_aloud<S: Site>(
-    page: &mut Page,
+    rt: &impl Print,
     alloc: Global,
     store: Store,
     command: &Command,
     site: &mut S,
-) -> Option<Store>
+) -> io::Result<Option<Store>>
     requires { IsTrue (S.told site.old) → Holds S.Site store.tail site.old }
     ensures told { S.told site.new ≡ S.told site.old }
     ensures holds { IsTrue (S.told site.old)
-        → IfSome result (λ store. Holds S.Site store.tail site.new) }
+        → IfOk result (λ after. IfSome after (λ store. Holds S.Site store.tail site.new)) }
 {
     let turn = carry_out(store, command, site);
-    print_outcome(page, alloc, &turn.outcome);
-    turn.store
+    print_outcome(rt, alloc, &turn.outcome)?;
+    Ok(turn.store)
 }
 
 /// Carries commands out on a store until a call fails, and prints what came of each, and then what
 /// the store says of itself, unless a call failed.
 pub fn carry_out_all<S: Site>(
-    page: &mut Page,
+    rt: &impl Print,
     alloc: Global,
     store: Store,
     commands: &[Command],
     site: &mut S,
-)
+) -> io::Result<()>
     requires { IsTrue (S.told site.old) → Holds S.Site store.tail site.old }
 {
     let mut store = store;
     for command in commands {
-        match carry_out_aloud(page, alloc, store, command, site) {
+        match carry_out_aloud(rt, alloc, store, command, site)? {
             Some(after) => store = after,
-            None => return,
+            None => return Ok(()),
         }
     }
-    print_store(page, alloc, &store)
+    print_store(rt, alloc, &store)
 }

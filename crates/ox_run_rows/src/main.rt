@@ -49,7 +49,6 @@
 mod calls;
 mod carry;
 mod often;
-mod page;
 mod runs;
 mod say;
 mod say_store;
@@ -58,9 +57,8 @@ mod words;
 
 use crate::calls::{hear, overwrite, read_lines, show, visit};
 use crate::often::often;
-use crate::page::Page;
 use crate::runs::{crash, run_aloud, run_short, site_after_crash};
-use crate::say::{print_file, print_frame, print_links};
+use crate::say::{print_file, print_frame, print_links, say};
 use crate::stores::tell_store;
 use crate::words::{NO_ROW, door_of, number_of, parts_of, script_of};
 use ox_memsite::MemSite;
@@ -118,72 +116,85 @@ fn fail(site: &mut MemSite, call: &str) -> Option<()> {
 }
 
 /// Says if a row wasn't carried out.
-fn carried(page: &mut Page, done: Option<()>) {
-    if done.is_none() {
-        page.say(NO_ROW)
+fn carried(rt: &impl Print, done: Option<()>) -> io::Result<()> {
+    match done {
+        Some(()) => Ok(()),
+        None => say(rt, NO_ROW),
     }
 }
 
 /// Carries out a row that changes the site alone, or another one.
-fn set(page: &mut Page, alloc: Global, on: &mut Desktop, row: &[&str]) {
+fn set(rt: &impl Print, alloc: Global, on: &mut Desktop, row: &[&str]) -> io::Result<()> {
     match row {
-        ["fresh"] => carried(page, begin(alloc, on)),
-        ["link", door, said @ ..] => carried(page, link(alloc, &mut on.site, door, said)),
-        ["feed", words @ ..] => carried(page, feed(alloc, on, words)),
-        ["fail", call] => carried(page, fail(&mut on.site, call)),
-        ["restart", moment, fill, keep] => carried(page, restart(alloc, on, [moment, fill, keep])),
+        ["fresh"] => carried(rt, begin(alloc, on)),
+        ["link", door, said @ ..] => carried(rt, link(alloc, &mut on.site, door, said)),
+        ["feed", words @ ..] => carried(rt, feed(alloc, on, words)),
+        ["fail", call] => carried(rt, fail(&mut on.site, call)),
+        ["restart", moment, fill, keep] => carried(rt, restart(alloc, on, [moment, fill, keep])),
         ["overwrite", file, at, hex] => {
-            carried(page, overwrite(alloc, &mut on.site, file, at, hex))
+            carried(rt, overwrite(alloc, &mut on.site, file, at, hex))
         }
-        _ => run_by(page, alloc, on, row),
+        _ => run_by(rt, alloc, on, row),
     }
 }
 
 /// Carries out a row that runs the program or a desk or prints what links were shown, or another
 /// one.
-fn run_by(page: &mut Page, alloc: Global, on: &mut Desktop, row: &[&str]) {
+fn run_by(rt: &impl Print, alloc: Global, on: &mut Desktop, row: &[&str]) -> io::Result<()> {
     match row {
-        ["run", words @ ..] => run_aloud(page, alloc, &mut on.site, words),
+        ["run", words @ ..] => run_aloud(rt, alloc, &mut on.site, words),
         ["short", portion, writes, words @ ..] => {
-            run_short(page, alloc, &mut on.site, portion, writes, words)
+            run_short(rt, alloc, &mut on.site, portion, writes, words)
         }
         ["crash", moment, fill, keep, runs @ ..] => {
-            crash(page, alloc, &on.site, &on.feed, [moment, fill, keep], runs)
+            crash(rt, alloc, &on.site, &on.feed, [moment, fill, keep], runs)
         }
-        ["often", times, paths @ ..] => often(page, alloc, &mut on.site, times, paths),
-        ["shown", links @ ..] => print_links(page, &on.site, links),
-        _ => tell(page, alloc, &mut on.site, row),
+        ["often", times, paths @ ..] => often(rt, alloc, &mut on.site, times, paths),
+        ["shown", links @ ..] => print_links(rt, &on.site, links),
+        _ => tell(rt, alloc, &mut on.site, row),
     }
 }
 
 /// Takes the link that waits at the door that a word names.
-fn visit_by(page: &mut Page, alloc: Global, site: &mut MemSite, door: &str, rooms: &[&str]) {
+fn visit_by(
+    rt: &impl Print,
+    alloc: Global,
+    site: &mut MemSite,
+    door: &str,
+    rooms: &[&str],
+) -> io::Result<()> {
     match door_of(door) {
-        Some(door) => visit(page, alloc, site, door, rooms),
-        None => page.say(NO_ROW),
+        Some(door) => visit(rt, alloc, site, door, rooms),
+        None => say(rt, NO_ROW),
     }
 }
 
 /// Shows the bytes of parts on channel 0, or prints the record of this payload.
-fn tell_parts(page: &mut Page, alloc: Global, site: &mut MemSite, shows: bool, words: &[&str]) {
+fn tell_parts(
+    rt: &impl Print,
+    alloc: Global,
+    site: &mut MemSite,
+    shows: bool,
+    words: &[&str],
+) -> io::Result<()> {
     match parts_of(alloc, words) {
-        Some(bytes) if shows => show(page, site, &bytes),
-        Some(bytes) => print_frame(page, alloc, &bytes),
-        None => page.say(NO_ROW),
+        Some(bytes) if shows => show(rt, site, &bytes),
+        Some(bytes) => print_frame(rt, alloc, &bytes),
+        None => say(rt, NO_ROW),
     }
 }
 
 /// Carries out a row that prints what calls on a site answer, or another one.
-fn tell(page: &mut Page, alloc: Global, site: &mut MemSite, row: &[&str]) {
+fn tell(rt: &impl Print, alloc: Global, site: &mut MemSite, row: &[&str]) -> io::Result<()> {
     match row {
-        ["lines", count] => read_lines(page, alloc, site, count),
-        ["hear", rooms @ ..] => hear(page, alloc, site, rooms),
-        ["visit", door, rooms @ ..] => visit_by(page, alloc, site, door, rooms),
-        ["show", words @ ..] => tell_parts(page, alloc, site, true, words),
-        ["frame", words @ ..] => tell_parts(page, alloc, site, false, words),
-        ["file", file, from] => print_file(page, site, file, from),
-        ["now"] => page.count_line("moment ", site.now()),
-        _ => tell_store(page, alloc, site, row),
+        ["lines", count] => read_lines(rt, alloc, site, count),
+        ["hear", rooms @ ..] => hear(rt, alloc, site, rooms),
+        ["visit", door, rooms @ ..] => visit_by(rt, alloc, site, door, rooms),
+        ["show", words @ ..] => tell_parts(rt, alloc, site, true, words),
+        ["frame", words @ ..] => tell_parts(rt, alloc, site, false, words),
+        ["file", file, from] => print_file(rt, site, file, from),
+        ["now"] => println!(rt; "moment {}", site.now()),
+        _ => tell_store(rt, alloc, site, row),
     }
 }
 
@@ -193,40 +204,27 @@ fn words_in(alloc: Global, row: &str) -> Option<Vec<&str>> {
 }
 
 /// Carries out a row.
-fn carry_out(page: &mut Page, alloc: Global, on: &mut Desktop, row: &str) {
+fn carry_out(rt: &impl Print, alloc: Global, on: &mut Desktop, row: &str) -> io::Result<()> {
     if row.starts_with('#') {
-        return page.say(row);
+        return say(rt, row);
     }
     match words_in(alloc, row) {
-        Some(words) => set(page, alloc, on, words.as_slice()),
-        None => page.say(NO_ROW),
+        Some(words) => set(rt, alloc, on, words.as_slice()),
+        None => say(rt, NO_ROW),
     }
-}
-
-/// Carries out a row; nothing of an empty one.
-fn carry_out_row(page: &mut Page, alloc: Global, on: &mut Desktop, row: &str) {
-    if !row.is_empty() {
-        carry_out(page, alloc, on, row)
-    }
-}
-
-/// Carries out each row of a text, and prints what came of it.
-fn carry_out_each(rt: &impl Print, alloc: Global, on: &mut Desktop, text: &str) -> io::Result<()> {
-    let mut page = Page::new(alloc);
-    for row in text.split('\n') {
-        page.clear();
-        carry_out_row(&mut page, alloc, on, row);
-        print!(rt; "{}", page.as_str())?;
-    }
-    Ok(())
 }
 
 /// Carries the rows of a text out, from two empty files on.
 fn carry_out_all(rt: &impl Print, alloc: Global, text: &str) -> io::Result<()> {
-    match fresh(alloc) {
-        Some(mut on) => carry_out_each(rt, alloc, &mut on, text),
-        None => println!(rt; "{NO_ROW}"),
+    let Some(mut on) = fresh(alloc) else {
+        return say(rt, NO_ROW);
+    };
+    for row in text.split('\n') {
+        if !row.is_empty() {
+            carry_out(rt, alloc, &mut on, row)?;
+        }
     }
+    Ok(())
 }
 
 fn main(rt: HostRuntime) -> io::Result<()> {

@@ -3,7 +3,7 @@
 ghost use Rattle.std.specs.Prelude.{IfSome};
 ghost use Rattle.ox_desk.specs.Desk.{Rests};
 
-use crate::page::Page;
+use crate::say::say;
 use crate::words::{NO_ROW, number_of};
 use ox_bytes::Bytes;
 use ox_desk::StoreDesk;
@@ -12,6 +12,7 @@ use ox_outside::Site;
 use ox_store::Store;
 use ox_turns::Desk;
 use std::alloc::Global;
+use std::io;
 
 /// A GET of a path, with which the link goes on.
 fn get(alloc: Global, path: &str) -> Option<Request> {
@@ -75,34 +76,38 @@ fn answer_often<S: Site>(
 /// Opens the store, and has one desk answer some requests, so many times over. Prints how many
 /// requests and hits it counts, and how many bytes the replies have.
 fn ask_often<S: Site>(
-    page: &mut Page,
+    rt: &impl Print,
     alloc: Global,
     site: &mut S,
     times: u64,
     requests: &[Request],
-) {
+) -> io::Result<()> {
     let Ok(store) = Store::open(alloc, site) else {
-        return page.say("no store");
+        return say(rt, "no store");
     };
     let Ok(mut desk) = StoreDesk::new(alloc, store) else {
-        return page.say("no memory");
+        return say(rt, "no memory");
     };
     let Some(bytes) = answer_often(&mut desk, site, requests, times) else {
-        return page.say("no reply");
+        return say(rt, "no reply");
     };
-    page.count("", desk.requests());
-    page.count(" requests ", desk.hits());
-    page.count(" hits ", bytes);
-    page.say(" bytes")
+    let (asked, hits) = (desk.requests(), desk.hits());
+    println!(rt; "{asked} requests {hits} hits {bytes} bytes")
 }
 
 /// The same with a GET of each path.
-pub fn often<S: Site>(page: &mut Page, alloc: Global, site: &mut S, times: &str, paths: &[&str]) {
+pub fn often<S: Site>(
+    rt: &impl Print,
+    alloc: Global,
+    site: &mut S,
+    times: &str,
+    paths: &[&str],
+) -> io::Result<()> {
     let Some(times) = number_of(times) else {
-        return page.say(NO_ROW);
+        return say(rt, NO_ROW);
     };
     match gets(alloc, paths) {
-        Some(requests) => ask_often(page, alloc, site, times, requests.as_slice()),
-        None => page.say(NO_ROW),
+        Some(requests) => ask_often(rt, alloc, site, times, requests.as_slice()),
+        None => say(rt, NO_ROW),
     }
 }

@@ -1,21 +1,20 @@
 //! Runs of the program.
 
-use crate::page::Page;
-use crate::say::print_shown;
+use crate::say::{print_shown, say};
 use crate::words::{NO_ROW, byte_of, number_of, portion_of, run_words_of};
 use ox_app::{Status, run};
 use ox_bytes::Bytes;
 use ox_memsite::{Choice, MemSite};
 use ox_short_site::{Portion, ShortSite};
 use std::alloc::Global;
-use std::mem;
+use std::{io, mem};
 
 /// Prints what was shown on channel 0, if memory never ran out.
-fn print_after(page: &mut Page, site: &MemSite) {
+fn print_after(rt: &impl Print, site: &MemSite) -> io::Result<()> {
     if site.starved() > 0 {
-        return page.say("no memory");
+        return say(rt, "no memory");
     }
-    print_shown(page, site, 0)
+    print_shown(rt, site, 0)
 }
 
 /// Runs the program. How it ended; `None` where a word can't be read.
@@ -25,17 +24,22 @@ fn status_of(alloc: Global, site: &mut MemSite, row: &[&str]) -> Option<Status> 
 }
 
 /// Runs the program, and prints its status.
-fn run_once(page: &mut Page, alloc: Global, site: &mut MemSite, row: &[&str]) {
+fn run_once(rt: &impl Print, alloc: Global, site: &mut MemSite, row: &[&str]) -> io::Result<()> {
     match status_of(alloc, site, row) {
-        Some(status) => page.count_line("status ", status.code() as u64),
-        None => page.say(NO_ROW),
+        Some(status) => println!(rt; "status {}", status.code()),
+        None => say(rt, NO_ROW),
     }
 }
 
 /// Runs the program, and prints its status and what was shown since the site was made.
-pub fn run_aloud(page: &mut Page, alloc: Global, site: &mut MemSite, row: &[&str]) {
-    run_once(page, alloc, site, row);
-    print_after(page, site)
+pub fn run_aloud(
+    rt: &impl Print,
+    alloc: Global,
+    site: &mut MemSite,
+    row: &[&str],
+) -> io::Result<()> {
+    run_once(rt, alloc, site, row)?;
+    print_after(rt, site)
 }
 
 /// A run over a site of short calls: the status, and how many writes were cut short.
@@ -82,20 +86,18 @@ fn run_over_by(
 
 /// The same, printed.
 pub fn run_short(
-    page: &mut Page,
+    rt: &impl Print,
     alloc: Global,
     site: &mut MemSite,
     portion: &str,
     writes: &str,
     row: &[&str],
-) {
+) -> io::Result<()> {
     let Some(ran) = run_over_by(alloc, site, portion, writes, row) else {
-        return page.say(NO_ROW);
+        return say(rt, NO_ROW);
     };
-    page.count("status ", ran.status.code() as u64);
-    page.count(", ", ran.cut);
-    page.say(" cut short");
-    print_after(page, site)
+    println!(rt; "status {}, {} cut short", ran.status.code(), ran.cut)?;
+    print_after(rt, site)
 }
 
 /// What a crash leaves. `None` also where there is no such moment.
@@ -117,13 +119,14 @@ fn run_words_in(alloc: Global, run: &str) -> Option<Vec<&str>> {
 }
 
 /// Runs the program once for each word, whose own words stand between commas.
-fn run_each(page: &mut Page, alloc: Global, site: &mut MemSite, runs: &[&str]) {
+fn run_each(rt: &impl Print, alloc: Global, site: &mut MemSite, runs: &[&str]) -> io::Result<()> {
     for run in runs {
         let Some(words) = run_words_in(alloc, run) else {
-            return page.say(NO_ROW);
+            return say(rt, NO_ROW);
         };
-        run_once(page, alloc, site, words.as_slice());
+        run_once(rt, alloc, site, words.as_slice())?;
     }
+    Ok(())
 }
 
 /// What a crash leaves, where channel 0 says the feed.
@@ -135,16 +138,16 @@ fn fed_after_crash(site: &MemSite, feed: &[u8], choice: [&str; 3]) -> Option<Mem
 
 /// Runs the program over what a crash leaves, once for each word. Channel 0 says the feed then.
 pub fn crash(
-    page: &mut Page,
+    rt: &impl Print,
     alloc: Global,
     site: &MemSite,
     feed: &[u8],
     choice: [&str; 3],
     runs: &[&str],
-) {
+) -> io::Result<()> {
     let Some(mut after) = fed_after_crash(site, feed, choice) else {
-        return page.say(NO_ROW);
+        return say(rt, NO_ROW);
     };
-    run_each(page, alloc, &mut after, runs);
-    print_after(page, &after)
+    run_each(rt, alloc, &mut after, runs)?;
+    print_after(rt, &after)
 }

@@ -1,8 +1,7 @@
 //! What is printed of a store.
 
 use crate::carry::{Moved, Outcome};
-use crate::page::Page;
-use crate::say::sum_of;
+use crate::say::{print_hex, print_hex_line, say, sum_of};
 use crate::words::NO_ROW;
 use ox_bytes::Bytes;
 use ox_checkpoint::put_body;
@@ -11,47 +10,48 @@ use ox_model::{Place, Refusal, View};
 use ox_outside::Which;
 use ox_store::{MakeFault, MigrateFault, OpenFault, Store};
 use std::alloc::Global;
+use std::io;
 
 /// A height and a hash, or that there is no block.
-fn print_tip(page: &mut Page, tip: Option<(u32, [u8; 32])>) {
+fn print_tip(rt: &impl Print, tip: Option<(u32, [u8; 32])>) -> io::Result<()> {
     match tip {
         Some(newest) => {
-            page.count("tip ", newest.0 as u64);
-            page.put(" ");
-            page.hex_line(&newest.1)
+            print!(rt; "tip {} ", newest.0)?;
+            print_hex_line(rt, &newest.1)
         }
-        None => page.say("no tip"),
+        None => say(rt, "no tip"),
     }
 }
 
 /// What a command changes, and the newest block after it.
-fn print_moved(page: &mut Page, moved: &Moved) {
-    page.put(if moved.is_back { "back " } else { "on " });
-    page.hex(&moved.hash);
-    page.count(", ", moved.gone as u64);
-    page.count(" gone, ", moved.came as u64);
-    page.put(" came, ");
-    print_tip(page, moved.tip)
+fn print_moved(rt: &impl Print, moved: &Moved) -> io::Result<()> {
+    print!(rt; "{} ", if moved.is_back { "back" } else { "on" })?;
+    print_hex(rt, &moved.hash)?;
+    print!(rt; ", {} gone, {} came, ", moved.gone, moved.came)?;
+    print_tip(rt, moved.tip)
 }
 
 /// The line of a refusal.
-fn print_refusal(page: &mut Page, alloc: Global, refusal: &Refusal) {
+fn print_refusal(rt: &impl Print, alloc: Global, refusal: &Refusal) -> io::Result<()> {
     match refusal.line(alloc) {
-        Ok(line) => page.put(str::from_utf8(line.as_slice()).unwrap_or("no text\n")),
-        Err(_) => page.say("no memory"),
+        Ok(line) => print!(rt;
+            "{}",
+            std::str::from_utf8(line.as_slice()).unwrap_or("no text\n")
+        ),
+        Err(_) => say(rt, "no memory"),
     }
 }
 
 /// What came of a command.
-pub fn print_outcome(page: &mut Page, alloc: Global, outcome: &Outcome) {
+pub fn print_outcome(rt: &impl Print, alloc: Global, outcome: &Outcome) -> io::Result<()> {
     match outcome {
-        Outcome::Done(moved) => print_moved(page, moved),
+        Outcome::Done(moved) => print_moved(rt, moved),
         Outcome::Failed(moved) => {
-            print_moved(page, moved);
-            page.say("a call failed")
+            print_moved(rt, moved)?;
+            say(rt, "a call failed")
         }
-        Outcome::Refused(refusal) => print_refusal(page, alloc, refusal),
-        Outcome::Memory => page.say("no memory"),
+        Outcome::Refused(refusal) => print_refusal(rt, alloc, refusal),
+        Outcome::Memory => say(rt, "no memory"),
     }
 }
 
@@ -71,94 +71,93 @@ fn body_sum(alloc: Global, store: &Store) -> Option<u64> {
     Some(sum_of(body.as_slice()))
 }
 
-/// How many blocks a store has, and how many it keeps.
-fn print_blocks(page: &mut Page, store: &Store) {
+/// The counts of a store, and what its body comes to.
+fn print_counts(rt: &impl Print, store: &Store, body: u64) -> io::Result<()> {
     let about = store.about();
-    page.count("", store.live().blocks() as u64);
-    page.count(" blocks, ", about.kept as u64);
-    page.count(" of ", about.depth as u64)
-}
-
-/// How many changes a store keeps, how many satoshis are lost, and how many commands it was given.
-fn print_counts(page: &mut Page, store: &Store) {
-    page.count(" kept, ", store.changes().len() as u64);
-    page.count(" changes, ", store.live().lost());
-    page.count(" lost, ", store.commands())
+    print!(rt;
+        "{} blocks, {} of {} kept, {} changes, {} lost, {} commands, body {body}, ",
+        store.live().blocks(),
+        about.kept,
+        about.depth,
+        store.changes().len(),
+        store.live().lost(),
+        store.commands()
+    )
 }
 
 /// What a store says of itself.
-pub fn print_store(page: &mut Page, alloc: Global, store: &Store) {
+pub fn print_store(rt: &impl Print, alloc: Global, store: &Store) -> io::Result<()> {
     let Some(body) = body_sum(alloc, store) else {
-        return page.say(NO_ROW);
+        return say(rt, NO_ROW);
     };
-    print_blocks(page, store);
-    print_counts(page, store);
-    page.count(" commands, body ", body);
-    page.put(", ");
-    print_tip(page, tip_of(store))
+    print_counts(rt, store, body)?;
+    print_tip(rt, tip_of(store))
 }
 
 /// Why a call ended before its work was done.
-fn print_halt(page: &mut Page, halt: Halt) {
+fn print_halt(rt: &impl Print, halt: Halt) -> io::Result<()> {
     match halt {
-        Halt::Disk => page.say("a call failed"),
-        Halt::Memory => page.say("no memory"),
+        Halt::Disk => say(rt, "a call failed"),
+        Halt::Memory => say(rt, "no memory"),
     }
 }
 
 /// Why files aren't made a store.
-pub fn print_unmade(page: &mut Page, fault: MakeFault) {
+pub fn print_unmade(rt: &impl Print, fault: MakeFault) -> io::Result<()> {
     match fault {
-        MakeFault::NotEmpty => page.say("not empty"),
-        MakeFault::Halt(halt) => print_halt(page, halt),
+        MakeFault::NotEmpty => say(rt, "not empty"),
+        MakeFault::Halt(halt) => print_halt(rt, halt),
     }
 }
 
 /// Where a file is none of a store.
-fn print_not_store(page: &mut Page, file: Which, at: u64) {
-    let told = match file {
-        Which::A => "not a store: A at ",
-        Which::B => "not a store: B at ",
+fn print_not_store(rt: &impl Print, file: Which, at: u64) -> io::Result<()> {
+    let name = match file {
+        Which::A => "A",
+        Which::B => "B",
     };
-    page.count_line(told, at)
+    println!(rt; "not a store: {name} at {at}")
 }
 
 /// Why files aren't opened.
-pub fn print_unopened(page: &mut Page, fault: OpenFault) {
+pub fn print_unopened(rt: &impl Print, fault: OpenFault) -> io::Result<()> {
     match fault {
-        OpenFault::NotStore { file, at } => print_not_store(page, file, at),
-        OpenFault::Halt(halt) => print_halt(page, halt),
+        OpenFault::NotStore { file, at } => print_not_store(rt, file, at),
+        OpenFault::Halt(halt) => print_halt(rt, halt),
     }
 }
 
 /// How many commands of a store of version 1 were carried out, and what the store says of itself.
-pub fn print_migrated(page: &mut Page, alloc: Global, commands: u64, store: &Store) {
-    page.count_line("ok ", commands);
-    print_store(page, alloc, store)
+pub fn print_migrated(
+    rt: &impl Print,
+    alloc: Global,
+    commands: u64,
+    store: &Store,
+) -> io::Result<()> {
+    println!(rt; "ok {commands}")?;
+    print_store(rt, alloc, store)
 }
 
 /// Why a store of version 1 isn't migrated.
-pub fn print_unmigrated(page: &mut Page, alloc: Global, fault: &MigrateFault) {
+pub fn print_unmigrated(rt: &impl Print, alloc: Global, fault: &MigrateFault) -> io::Result<()> {
     match fault {
-        MigrateFault::NotStore { file, at } => print_not_store(page, *file, *at),
+        MigrateFault::NotStore { file, at } => print_not_store(rt, *file, *at),
         MigrateFault::Old { command, refusal } => {
-            page.count("old ", *command);
-            page.put(" ");
-            print_refusal(page, alloc, refusal)
+            print!(rt; "old {command} ")?;
+            print_refusal(rt, alloc, refusal)
         }
-        MigrateFault::Halt(halt) => print_halt(page, *halt),
+        MigrateFault::Halt(halt) => print_halt(rt, *halt),
     }
 }
 
 /// Where a satoshi is.
-pub fn print_place(page: &mut Page, place: Option<Place>) {
+pub fn print_place(rt: &impl Print, place: Option<Place>) -> io::Result<()> {
     match place {
         Some(Place::Out { outpoint, offset }) => {
-            page.hex(&outpoint.txid.0);
-            page.count(":", outpoint.index as u64);
-            page.count_line(" at ", offset)
+            print_hex(rt, &outpoint.txid.0)?;
+            println!(rt; ":{} at {offset}", outpoint.index)
         }
-        Some(Place::Lost { offset }) => page.count_line("lost at ", offset),
-        None => page.say("nowhere"),
+        Some(Place::Lost { offset }) => println!(rt; "lost at {offset}"),
+        None => say(rt, "nowhere"),
     }
 }

@@ -12,7 +12,7 @@ use std::alloc::Global;
 const SPENDS: u32 = 500;
 
 /// What is done.
-#[derive(Clone, Copy)]
+#[derive(Clone, Copy, PartialEq, Eq)]
 pub(crate) enum Load {
     /// Spends outputs of so many scripts, and pays others to these.
     Spend,

@@ -32,7 +32,7 @@ mod runes;
 mod stones;
 
 /// What is done.
-#[derive(Clone, Copy)]
+#[derive(Clone, Copy, PartialEq, Eq)]
 enum Task {
     Stone,
     Deal(pools::Load),

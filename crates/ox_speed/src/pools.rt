@@ -7,7 +7,7 @@ use ox_runestone::{Edict, RuneId};
 use std::alloc::Global;
 
 /// What is done.
-#[derive(Clone, Copy)]
+#[derive(Clone, Copy, PartialEq, Eq)]
 pub(crate) enum Load {
     /// Edicts for one output each.
     One,
@@ -85,7 +85,7 @@ fn edict_of(load: Load, size: Size, number: u32) -> Edict {
     Edict {
         id: rune_id(if size.runes == 1 { 0 } else { number % 1_000 }),
         amount: 3,
-        output: if matches!(load, Load::One) {
+        output: if load == Load::One {
             number % 10
         } else {
             size.outputs

@@ -17,7 +17,7 @@ const MARKED: u32 = 10;
 const JUBILEE: u64 = 1 << 32;
 
 /// What is done.
-#[derive(Clone, Copy)]
+#[derive(Clone, Copy, PartialEq, Eq)]
 pub(crate) enum Load {
     /// Looks each row up.
     Look,
@@ -30,7 +30,7 @@ pub(crate) enum Load {
 }
 
 /// The order in which ids come.
-#[derive(Clone, Copy)]
+#[derive(Clone, Copy, PartialEq, Eq)]
 pub(crate) enum Order {
     /// Spread over all ids.
     Scattered,

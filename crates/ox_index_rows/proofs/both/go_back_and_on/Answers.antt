@@ -10,7 +10,7 @@ use Rattle.ox_index.specs.Live.{index_in, profile_in}
 use Rattle.ox_index_rows.proofs.both.go_back_and_on.Goals as goal
 
 pub again-requires : goal.again-requires
-again-requires c =
+again-requires g c =
     let after : Index = index_in c.args.live.now in
     let there : Index = index_in c.back.new.self in
     let change : Change = c.args.change.now in

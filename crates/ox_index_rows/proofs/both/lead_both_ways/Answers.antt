@@ -10,7 +10,7 @@ use Rattle.ox_index.specs.Live.{index_in, profile_in}
 use Rattle.ox_index_rows.proofs.both.lead_both_ways.Goals as goal
 
 pub go_back_and_on-requires : goal.go_back_and_on-requires
-go_back_and_on-requires c =
+go_back_and_on-requires g c =
     let before : Index = index_in c.args.live.now in
     let after : Index = index_in c.connect.new.self in
     let change : Change = c.in-Ok.change in

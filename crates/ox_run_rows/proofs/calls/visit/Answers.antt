@@ -8,8 +8,8 @@ use Rattle.ox_outside.proofs.Links.{opened_whole}
 use Rattle.ox_memsite.specs.World.{log_of}
 use Rattle.ox_run_rows.proofs.calls.visit.Goals as goal
 
-pub hear_all-requires : goal.hear_all-requires
-hear_all-requires c =
+pub hear_all-heard-requires : goal.hear_all-heard-requires
+hear_all-heard-requires g c =
     let link = c.in-Ok-Some.link in
     let old = log_of c.args.site.now in
     let new = log_of c.door.new.self in
