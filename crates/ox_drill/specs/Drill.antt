@@ -59,7 +59,8 @@ pub record Makes {S : Type 0} (means : Meanings S) (result : Result StoreContent
   pub fresh : IfOk result (λ store. store.commands ≡ 0)
   pub in_step : IsTrue (means.told old) → IfOk result (λ store. InStep means store new)
   pub empty : IsTrue (means.told old) → OnOk result (means.seen old ≡ no_files)
-  pub not_empty : IsTrue (means.told old) → IsErrOf result makes.NotEmpty → means.seen old ≢ no_files
+  pub not_empty : IsTrue (means.told old) → IsErrOf result makes.NotEmpty
+      → means.seen old ≢ no_files
   pub spared : IsTrue (means.told old) → means.seen old ≢ no_files → OnlyLooks means old new
   pub none : IfErr result (λ fault. MakesNone means fault old new)
   pub failed : IsErrOf result (makes.Halt halts.Disk)
