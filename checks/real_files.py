@@ -16,7 +16,6 @@ minutes.
 import collections
 import contextlib
 import fcntl
-import itertools
 import json
 import os
 import pathlib
@@ -308,6 +307,11 @@ def changed_bytes(ox):
 
 
 TURNS, TURN_KILLS = 10, 20
+# how many seconds a kill waits at most behind the line before the one that turns the files
+LONGEST_WAIT = 0.001
+TURN_BLOCKS = 1000
+# so many commands are enough where one kill of ten comes before the last line's answer
+TURN_COMMANDS = 10 * TURN_KILLS * (MOST_RECORDS + 3)
 
 
 @every.check(
@@ -316,21 +320,25 @@ TURNS, TURN_KILLS = 10, 20
 )
 def killed_turns(ox):
     chance = random.Random(SEED)
-    commands = list(walk(chance, 100, 6 * TURNS * MOST_RECORDS, odds=2, blocks=300))
+    commands = list(walk(chance, 100, TURN_COMMANDS, odds=2, blocks=TURN_BLOCKS))
     store = store_files.summed_store_of([])
     ox.write(*bytes_in(store))
     heard = kills = 0
+    longest = LONGEST_WAIT
     while store.tail.generation <= TURNS or kills < TURN_KILLS:
         demand(heard < len(commands), f"the commands have ended behind {kills} kills")
         lines = lines_to_turn(store, commands[heard:]) - 1
         # the line that turns the files, and two behind it
-        feed = map(line_of, commands[heard : heard + lines + 3])
-        when = Moment(lines, chance.random() < 0.3, chance.uniform(0, 0.001))
+        feed = [*map(line_of, commands[heard : heard + lines + 3])]
+        when = Moment(lines, chance.random() < 0.3, chance.uniform(0, longest))
         with endless(b"".join(feed)) as given:
             shown, was_killed = apply_and_kill(ox.program, ox.folder, given, when)
         demand(was_killed, "it has ended, though its feed hasn't")
-        kills += 1
         answered = shown.count(b"\n")
+        # a kill behind the last answer tells nothing, and the next one comes earlier
+        is_late = answered == len(feed)
+        kills += not is_late
+        longest = longest / 2 if is_late else LONGEST_WAIT
         made = made_of(store, commands[heard:], answered, ox.files())
         demand(made is not None, f"the files have other bytes behind {heard + answered} lines")
         heard += made
